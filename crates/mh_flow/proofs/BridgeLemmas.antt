@@ -1,11 +1,12 @@
 -- The laws between numbers and names.
-use Rattle.std.specs.Prelude.{◌≡◌, ◌&&◌, ◌++◌, ℕ, Bool, true, false, if◌then◌else◌, List, [], ◌∷◌, map, slice_get, Option, Some, None, option_and_then, refl}
+use Rattle.std.specs.Prelude.{◌≡◌, ◌&&◌, ◌||◌, ◌++◌, ℕ, Bool, true, false, if◌then◌else◌, List, [], ◌∷◌, map, slice_get, Option, Some, None, option_and_then, refl}
 use Rattle.std.specs.List.{Contains, flat_map, list_any}
 use Rattle.std.specs.Map.{lookup}
 use Rattle.std.specs.Option.{option_map_or, option_to_list}
 use Rattle.std.proofs.Common.{ap, ◌∙◌, sym, subst}
 use Rattle.mh_base.specs.declared.obj_ref.ObjRef.{ObjRef}
 use Rattle.mh_base.specs.declared.value.Value.{Value}
+use Rattle.mh_base.specs.declared.value.Value.TheVariants as value
 use Rattle.mh_group.specs.declared.action_name.ActionName.{ActionName}
 use Rattle.mh_group.specs.declared.action_name.ActionName.TheVariants as action
 use Rattle.mh_model.specs.declared.act.Act.{Act}
@@ -21,7 +22,6 @@ use Rattle.mh_model.specs.Service.{Service, fresh}
 use Rattle.mh_model.proofs.ListLemmas.{both_empty, some_same}
 use Rattle.mh_model.proofs.ServiceLemmas.{same_ref-same}
 use Rattle.mh_laws.specs.Active.{active_actions, leads_to}
-use Rattle.mh_laws.specs.Describing.{says, Says}
 use Rattle.mh_laws.specs.Each.{Each}
 use Rattle.mh_laws.specs.Flow.{Flow, IsHeld, IsLed, IsOpenIf, IsSolution, Keeps, MayBe, MayHand, Passes, fills, is_given, is_list_in, is_reference_in, reached}
 use Rattle.mh_laws.specs.Flow.{has as is_held}
@@ -35,7 +35,7 @@ use Rattle.mh_flow.specs.declared.chart.Bases.{Bases}
 use Rattle.mh_flow.specs.declared.chart.Set.{Set}
 use Rattle.mh_flow.specs.declared.chart.Set.TheVariants as set
 use Rattle.mh_flow.specs.Bridge.{DerivedIsHeld, DerivedIsInFlow, DerivedIsReached, HeldExactly, HeldIsDerived, HoldersHold, IsHeldAt, is_held_at, NumbersFit, RowsAreLeast, UntargetedOpensNothing}
-use Rattle.mh_flow.specs.Chart.{Chart, IsChart, config_number, goes_on, member_of, node_from, node_of, argument_of, handed_argument, read_by}
+use Rattle.mh_flow.specs.Chart.{Chart, IsChart, config_number, goes_on, hands_on, leads_on, member_of, node_from, node_of, handed_argument}
 use Rattle.mh_flow.specs.Opening as opening
 use Rattle.mh_flow.specs.Opening.{member, system_of}
 use Rattle.mh_flow.specs.Solved.{flow_of, is_holder_in, is_reached, reached_configs, set_of}
@@ -225,30 +225,44 @@ rows_are_least v ch rows is s =
 
 -- Variables through which no action has its target that goes on from there
 
-says_nothing : (n : ActionName) → goes_on n ≡ false → says n ≡ []
-says_nothing action.SetVariable e = cc
-says_nothing action.AddItem e = cc
-says_nothing n e = refl
+pub or_left : (a b : Bool) → (a || b) ≡ false → a ≡ false
+or_left true b e = cc
+or_left false b e = refl
 
-fills_nothing : (n : ActionName) → goes_on n ≡ false → fills n ≡ false
+pub or_right : (a b : Bool) → (a || b) ≡ false → b ≡ false
+or_right true b e = cc
+or_right false b e = e
+
+pub fills_nothing : (n : ActionName) → leads_on n ≡ false → fills n ≡ false
 fills_nothing action.GetListItem e = cc
 fills_nothing action.GetCellItem e = cc
 fills_nothing n e = refl
 
-leads_nowhere : (v : Service) (c : Config) (n : ActionName) (r : ObjRef) → goes_on n ≡ false → leads_to v c n r ≡ None
+pub leads_nowhere : (v : Service) (c : Config) (n : ActionName) (r : ObjRef) → leads_on n ≡ false → leads_to v c n r ≡ None
 leads_nowhere v c action.TransitionTo r e = cc
 leads_nowhere v c action.Launch r e = cc
 leads_nowhere v c n r e = refl
 
-does_nothing : (v : Service) (ch : Chart) (k : ℕ) (c : Config) (b : Bases) (a : Act) (r : ObjRef) → goes_on a.name ≡ false → opening.does v ch k c b a r ≡ []
+hands_nothing : (v : Service) (ch : Chart) (c : Config) (b : Bases) (r : ObjRef) (o : Option Argument) → hands_on o ≡ false → flat_map (opening.handed_on v ch c b r) (option_to_list o) ≡ []
+hands_nothing v ch c b r None e = refl
+hands_nothing v ch c b r (Some (argument.Direct (value.Object q))) e = cc
+hands_nothing v ch c b r (Some (argument.Direct (value.Bool x))) e = refl
+hands_nothing v ch c b r (Some (argument.Direct (value.Int x))) e = refl
+hands_nothing v ch c b r (Some (argument.Direct (value.Octets x))) e = refl
+hands_nothing v ch c b r (Some (argument.Direct (value.Content x))) e = refl
+hands_nothing v ch c b r (Some (argument.Through x k)) e = cc
+hands_nothing v ch c b r (Some (argument.Receiver x)) e = refl
+
+-- an action that does not go on does nothing wherever its target comes to
+pub does_nothing : (v : Service) (ch : Chart) (k : ℕ) (c : Config) (b : Bases) (a : Act) (r : ObjRef) → goes_on a ≡ false → opening.does v ch k c b a r ≡ []
 does_nothing v ch k c b a r e =
     both_empty (opening.given v ch c b a r ++ opening.filled v ch c b a r) (opening.led_on ch k (leads_to v c a.name r))
     (both_empty (opening.given v ch c b a r) (opening.filled v ch c b a r) (hand (is_given (present v c) a.name r))
-    (ap (λ (z : Bool). if z && is_list_in (present v c) r then flat_map (opening.filled_in v ch c b r) (receivers a.arguments) else []) (fills_nothing a.name e)))
-    (ap (opening.led_on ch k) (leads_nowhere v c a.name r e))
+    (ap (λ (z : Bool). if z && is_list_in (present v c) r then flat_map (opening.filled_in v ch c b r) (receivers a.arguments) else []) (fills_nothing a.name (or_right (hands_on (handed_argument a)) (leads_on a.name) e))))
+    (ap (opening.led_on ch k) (leads_nowhere v c a.name r (or_right (hands_on (handed_argument a)) (leads_on a.name) e)))
   where
     hand : (z : Bool) → (if z then flat_map (opening.handed_on v ch c b r) (option_to_list (handed_argument a)) else []) ≡ []
-    hand true = ap (λ (ss : List Says). flat_map (opening.handed_on v ch c b r) (option_to_list (read_by a.name (argument_of ss a.arguments)))) (says_nothing a.name e)
+    hand true = hands_nothing v ch c b r (handed_argument a) (or_left (hands_on (handed_argument a)) (leads_on a.name) e)
     hand false = refl
 
 pub untargeted_opens_nothing : UntargetedOpensNothing
@@ -260,9 +274,9 @@ untargeted_opens_nothing v ch k c b w (Some r) is none = by (is_reference_in (pr
     through a (target.Through y) x e active m = same (same_ref y w) refl m
       where
         same : (z : Bool) → same_ref y w ≡ z → Contains (if z then opening.does v ch k c b a r else []) x → ⊥
-        same true it l = goes (goes_on a.name) refl
+        same true it l = goes (goes_on a) refl
           where
-            goes : (z : Bool) → goes_on a.name ≡ z → ⊥
+            goes : (z : Bool) → goes_on a ≡ z → ⊥
             goes true on =
                 let there : list_any (same_ref w) ch.targeted ≡ true = targeted v ch c a w is active on (e ∙ ap target.Through (same_ref-same y w it)) in
                 let never : true ≡ false = sym there ∙ none in

@@ -1,7 +1,7 @@
 pub mod RowLemmas
 pub mod StepLemmas
-pub mod AddLemmas
 pub mod EdgeLemmas
+pub mod MemberLemmas
 pub mod PutLemmas
 pub mod FixpointLemmas
 pub mod SetLemmas
@@ -14,6 +14,7 @@ pub mod IndexLemmas
 pub mod ChartLemmas
 pub mod OrderLemmas
 pub mod OpeningLemmas
+pub mod WalkedLemmas
 pub mod PlaceLemmas
 pub mod NumberLemmas
 pub mod PresentLemmas
@@ -35,3 +36,6 @@ pub mod ChainExactLemmas
 pub mod OriginLemmas
 pub mod NearestLemmas
 pub mod LikelyLemmas
+pub mod WalkLemmas
+pub mod ListsLemmas
+pub mod StillLemmas

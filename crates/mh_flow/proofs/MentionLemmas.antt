@@ -163,7 +163,7 @@ written_number v ch c a n q is active says_it e =
     (Contains-append_right (firsts by.0) (flat_map handed (actions by.0)) q (in_joined handed (actions by.0) a q by.2 (handed_among (says a.name) a.arguments n q says_it e)))
 
 -- a variable through which an active action has its target that goes on from there is among those
-pub targeted : (v : Service) (ch : Chart) (c : Config) (a : Act) (w : ObjRef) → IsChart v ch → Contains (active_actions (present v c)) a → goes_on a.name ≡ true → a.target ≡ target.Through w → list_any (same_ref w) ch.targeted ≡ true
+pub targeted : (v : Service) (ch : Chart) (c : Config) (a : Act) (w : ObjRef) → IsChart v ch → Contains (active_actions (present v c)) a → goes_on a ≡ true → a.target ≡ target.Through w → list_any (same_ref w) ch.targeted ≡ true
 targeted v ch c a w is active on e =
     let by = acting (present v c) a active in
     let of_target : Contains (target_variables a.target) w = subst (λ (t : Target). Contains (target_variables t) w) (sym e) (here w []) in

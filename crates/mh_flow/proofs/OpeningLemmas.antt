@@ -52,14 +52,11 @@ not_walked v ch k c b w r is h = by (list_any (same_ref w) ch.targeted) refl h
     by false e h = sym (untargeted_opens_nothing v ch k c b w (Some r) is e)
     by true e h = rw h refl
 
-pub walked : (v : Service) (ch : Chart) (k : ℕ) (c : Config) (b : Bases) (w r : ObjRef) (xs : List Site) → (list_any (same_ref w) ch.targeted && is_reference_in (present v c) w) ≡ true → xs ≡ sites_of (present v c) → flat_map (λ x. does_through v ch k c b w r x.act x.act.target) xs ≡ by_variable v ch k c b w (Some r)
-walked v ch k c b w r xs h sites =
-    ap (flat_map (λ (x : Site). does_through v ch k c b w r x.act x.act.target)) sites
-    ∙ through_active (λ (a : Act). does_through v ch k c b w r a a.target) (present v c)
-    ∙ by (list_any (same_ref w) ch.targeted) h
+pub is_walked_there : (v : Service) (ch : Chart) (c : Config) (w : ObjRef) → (list_any (same_ref w) ch.targeted && is_reference_in (present v c) w) ≡ true → is_reference_in (present v c) w ≡ true
+is_walked_there v ch c w h = by (list_any (same_ref w) ch.targeted) h
   where
-    by : (t : Bool) → (t && is_reference_in (present v c) w) ≡ true → flat_map (λ (a : Act). does_through v ch k c b w r a a.target) (active_actions (present v c)) ≡ by_variable v ch k c b w (Some r)
-    by true h = rw h refl
+    by : (t : Bool) → (t && is_reference_in (present v c) w) ≡ true → is_reference_in (present v c) w ≡ true
+    by true h = h
     by false h = cc
 
 -- what is no variable of references and no list holds nothing at first

@@ -1,11 +1,13 @@
 -- Rows of bits and of numbers.
-use Rattle.std.specs.Prelude.{◌≡◌, ◌⊎◌, ◌<◌, ◌≤◌, ℕ, zero, suc, ◌+◌, Bool, true, false, List, [], ◌∷◌, ◌++◌, length, map, Vec, slice_index_or, slice_set, replicate, nat_eq, ◌||◌, refl}
+use Rattle.std.specs.Prelude.{◌≡◌, ◌≢◌, ◌⊎◌, ◌<◌, ◌≤◌, ℕ, zero, suc, ◌+◌, ◌*◌, ◌/◌, ◌%◌, ◌==◌, ◌&&◌, ◌||◌, nat_eq, Bool, true, false, List, [], ◌∷◌, ◌++◌, length, map, Vec, slice_index_or, slice_set, replicate, refl}
 use Rattle.std.specs.declared.alloc.Global.{Global}
-use Rattle.std.specs.List.{Contains, list_any, slice_index}
+use Rattle.std.specs.Int.{bit_at}
+use Rattle.std.specs.List.{Contains, slice_index}
+use Rattle.std.proofs.lemmas.Bool.Decides.{nat_tests}
 use Rattle.std.proofs.Common.{rules, arith, inl, inr, ap, ◌∙◌, sym, subst, length-append, append-nil, eqb-true}
 use Rattle.std.proofs.lemmas.List.{append_assoc, get_or_append_left, length-map}
 use Rattle.std.proofs.lemmas.List.Elements.{Contains-append_left, Contains-append_right, Contains-append_cases}
-use Rattle.mh_flow.specs.Rows.{number_rows, row, width_at, is_at, set_at, has, unset, free, laid, LaidOut, Marked, Pushed, AreLonger}
+use Rattle.mh_flow.specs.Rows.{number_rows, row, width_at, is_at, in_word, has, unset, free, laid, HasPut, LaidOut, WordPut, Emptied, Pushed, AreLonger}
 
 abbrev pub items_of : {X : Type 0} → List (Vec X Global) → List (List X)
 items_of rows = map (λ r. r.items) rows
@@ -74,50 +76,49 @@ set_length [] u r = refl
 set_length (x ∷ rows) zero r = refl
 set_length (x ∷ rows) (suc u) r = ap suc (set_length rows u r)
 
-at_set : (bs : List Bool) (q : ℕ) → q < length bs → is_at (set_at bs q) q ≡ true
-at_set [] q less = absurd (omega (arith, less))
-at_set (b ∷ bs) zero less = refl
-at_set (b ∷ bs) (suc q) less = at_set bs q (omega (arith, less))
-
-at_kept : (bs : List Bool) (q y : ℕ) → is_at bs y ≡ true → is_at (set_at bs q) y ≡ true
-at_kept [] q y e = e
-at_kept (b ∷ bs) zero zero e = refl
-at_kept (b ∷ bs) zero (suc y) e = e
-at_kept (b ∷ bs) (suc q) zero e = e
-at_kept (b ∷ bs) (suc q) (suc y) e = at_kept bs q y e
-
-at_only : (bs : List Bool) (q y : ℕ) → is_at (set_at bs q) y ≡ true → (is_at bs y ≡ true) ⊎ (y ≡ q)
-at_only [] q y e = inl e
-at_only (b ∷ bs) zero zero e = inr refl
-at_only (b ∷ bs) zero (suc y) e = inl e
-at_only (b ∷ bs) (suc q) zero e = inl e
-at_only (b ∷ bs) (suc q) (suc y) e = by (at_only bs q y e)
+row_other : {X : Type 0} (rows : List (List X)) (u x : ℕ) (r : List X) → x ≢ u → row (set_row rows u r) x ≡ row rows x
+row_other {X} rows u x r other = by (row_cases rows u x r)
   where
-    by : (is_at bs y ≡ true) ⊎ (y ≡ q) → (is_at bs y ≡ true) ⊎ (suc y ≡ suc q)
-    by (inl k) = inl k
-    by (inr k) = inr (ap suc k)
+    by : ((x ≡ u) × (row (set_row rows u r) x ≡ r)) ⊎ (row (set_row rows u r) x ≡ row rows x) → row (set_row rows u r) x ≡ row rows x
+    by (inl e) = absurd (other e.0)
+    by (inr e) = e
 
-at_length : (bs : List Bool) (q : ℕ) → length (set_at bs q) ≡ length bs
-at_length [] q = refl
-at_length (b ∷ bs) zero = refl
-at_length (b ∷ bs) (suc q) = ap suc (at_length bs q)
+-- fewer bits are left where more are set
 
-at_less : (w : ℕ) (bs : List Bool) (q : ℕ) → length bs ≡ w → q < length bs → is_at bs q ≡ false → suc (unset w (set_at bs q)) ≡ unset w bs
-at_less w [] q same less e = absurd (omega (arith, less))
-at_less zero (b ∷ bs) q same less e = absurd (omega (arith, same))
-at_less (suc w) (true ∷ bs) zero same less e = absurd cc
-at_less (suc w) (false ∷ bs) zero same less e = refl
-at_less (suc w) (true ∷ bs) (suc q) same less e = at_less w bs q (omega (arith, same)) (omega (arith, less)) e
-at_less (suc w) (false ∷ bs) (suc q) same less e = ap suc (at_less w bs q (omega (arith, same)) (omega (arith, less)) e)
+unset_grown : (w : ℕ) (old new : List Bool) → length new ≡ length old → ((q : ℕ) → is_at old q ≡ true → is_at new q ≡ true) → unset w new ≤ unset w old
+unset_grown w [] [] same more = omega arith
+unset_grown w [] (b ∷ new) same more = absurd (omega (arith, same))
+unset_grown w (b ∷ old) [] same more = absurd (omega (arith, same))
+unset_grown zero (a ∷ old) (b ∷ new) same more = omega arith
+unset_grown (suc w) (true ∷ old) (true ∷ new) same more = unset_grown w old new (omega (arith, same)) (λ q h. more (suc q) h)
+unset_grown (suc w) (true ∷ old) (false ∷ new) same more = let never = more 0 refl in absurd cc
+unset_grown (suc w) (false ∷ old) (true ∷ new) same more =
+    let below = unset_grown w old new (omega (arith, same)) (λ q h. more (suc q) h) in omega (arith, below)
+unset_grown (suc w) (false ∷ old) (false ∷ new) same more =
+    let below = unset_grown w old new (omega (arith, same)) (λ q h. more (suc q) h) in omega (arith, below)
 
-free_less : (w : ℕ) (rows : List (List Bool)) (u q : ℕ) → width_at rows u ≡ w → q < width_at rows u → has rows u q ≡ false → suc (free w (set_row rows u (set_at (row rows u) q))) ≡ free w rows
-free_less w [] u q same less e = absurd (omega (arith, less))
-free_less w (r ∷ rows) zero q same less e =
-    let one : suc (unset w (set_at r q)) ≡ unset w r = at_less w r q same less e in
-    omega (arith, one)
-free_less w (r ∷ rows) (suc u) q same less e =
-    let below : suc (free w (set_row rows u (set_at (row rows u) q))) ≡ free w rows = free_less w rows u q same less e in
-    omega (arith, below)
+unset_fewer : (w : ℕ) (old new : List Bool) (x : ℕ) → length old ≡ w → length new ≡ length old → ((q : ℕ) → is_at old q ≡ true → is_at new q ≡ true)
+    → is_at old x ≡ false → is_at new x ≡ true → suc (unset w new) ≤ unset w old
+unset_fewer w [] [] x wide same more off on = absurd cc
+unset_fewer w [] (b ∷ new) x wide same more off on = absurd (omega (arith, same))
+unset_fewer w (b ∷ old) [] x wide same more off on = absurd (omega (arith, same))
+unset_fewer zero (a ∷ old) (b ∷ new) x wide same more off on = absurd (omega (arith, wide))
+unset_fewer (suc w) (true ∷ old) (b ∷ new) zero wide same more off on = absurd cc
+unset_fewer (suc w) (false ∷ old) (false ∷ new) zero wide same more off on = absurd cc
+unset_fewer (suc w) (false ∷ old) (true ∷ new) zero wide same more off on =
+    let below = unset_grown w old new (omega (arith, same)) (λ q h. more (suc q) h) in omega (arith, below)
+unset_fewer (suc w) (true ∷ old) (true ∷ new) (suc x) wide same more off on =
+    unset_fewer w old new x (omega (arith, wide)) (omega (arith, same)) (λ q h. more (suc q) h) off on
+unset_fewer (suc w) (true ∷ old) (false ∷ new) (suc x) wide same more off on = let never = more 0 refl in absurd cc
+unset_fewer (suc w) (false ∷ old) (true ∷ new) (suc x) wide same more off on =
+    let below = unset_fewer w old new x (omega (arith, wide)) (omega (arith, same)) (λ q h. more (suc q) h) off on in omega (arith, below)
+unset_fewer (suc w) (false ∷ old) (false ∷ new) (suc x) wide same more off on =
+    let below = unset_fewer w old new x (omega (arith, wide)) (omega (arith, same)) (λ q h. more (suc q) h) off on in omega (arith, below)
+
+free_fewer : (w : ℕ) (rows : List (List Bool)) (u : ℕ) (r : List Bool) → u < length rows → suc (unset w r) ≤ unset w (row rows u) → suc (free w (set_row rows u r)) ≤ free w rows
+free_fewer w [] u r less e = absurd (omega (arith, less))
+free_fewer w (s ∷ rows) zero r less e = omega (arith, e)
+free_fewer w (s ∷ rows) (suc u) r less e = let below = free_fewer w rows u r (omega (arith, less)) e in omega (arith, below)
 
 -- a row that is laid out
 
@@ -164,42 +165,56 @@ laid_out rows w u within e = record {
     r : List Bool
     r = laid w (row rows u)
 
-    width : (x : ℕ) → ((x ≡ u) × (row (set_row rows u r) x ≡ r)) ⊎ (row (set_row rows u r) x ≡ row rows x) → (width_at (set_row rows u r) x ≡ width_at rows x) ⊎ (width_at (set_row rows u r) x ≡ w)
-    width x (inl is) = inr (ap (λ (bs : List Bool). length bs) is.1 ∙ laid_length w (row rows u) e)
+    width : (x : ℕ) → ((x ≡ u) × (row (set_row rows u r) x ≡ r)) ⊎ (row (set_row rows u r) x ≡ row rows x) → (width_at (set_row rows u r) x ≡ width_at rows x) ⊎ ((x ≡ u) × (width_at (set_row rows u r) x ≡ w))
+    width x (inl is) = inr (is.0, ap (λ (bs : List Bool). length bs) is.1 ∙ laid_length w (row rows u) e)
     width x (inr k) = inl (ap (λ (bs : List Bool). length bs) k)
 
     same : (x y : ℕ) → ((x ≡ u) × (row (set_row rows u r) x ≡ r)) ⊎ (row (set_row rows u r) x ≡ row rows x) → has (set_row rows u r) x y ≡ has rows x y
     same x y (inl is) = ap (λ (bs : List Bool). is_at bs y) is.1 ∙ laid_at w (row rows u) y ∙ sym (ap (λ (z : ℕ). has rows z y) is.0)
     same x y (inr k) = ap (λ (bs : List Bool). is_at bs y) k
 
-pub marked : (rows : List (List Bool)) (u q : ℕ) → u < length rows → q < width_at rows u → has rows u q ≡ false → Marked u q rows (set_row rows u (set_at (row rows u) q))
-marked rows u q within less e = record {
-  set = ap (λ (bs : List Bool). is_at bs q) (row_same rows u (set_at (row rows u) q) within) ∙ at_set (row rows u) q less;
-  kept = λ x y h. kept x y (row_cases rows u x (set_at (row rows u) q)) h;
-  only = λ x y h. only x y (row_cases rows u x (set_at (row rows u) q)) h;
-  height = set_length rows u (set_at (row rows u) q);
-  width = λ x. width x (row_cases rows u x (set_at (row rows u) q));
-  less = λ w same. free_less w rows u q same less e;
+pub word_put : (rows : List (List Bool)) (u at bits : ℕ) (r : List Bool) → u < length rows → HasPut at bits (row rows u) r → WordPut u at bits rows (set_row rows u r)
+word_put rows u at bits r within put = record {
+  set = λ x y. set x y (nat_eq x u) refl;
+  height = set_length rows u r;
+  width = λ x. width x (row_cases rows u x r);
+  less = λ w k wide inside on off. less w k wide inside on off;
 }
   where
-    r : List Bool
-    r = set_at (row rows u) q
-
-    kept : (x y : ℕ) → ((x ≡ u) × (row (set_row rows u r) x ≡ r)) ⊎ (row (set_row rows u r) x ≡ row rows x) → has rows x y ≡ true → has (set_row rows u r) x y ≡ true
-    kept x y (inl is) h = ap (λ (bs : List Bool). is_at bs y) is.1 ∙ at_kept (row rows u) q y (sym (ap (λ (z : ℕ). has rows z y) is.0) ∙ h)
-    kept x y (inr same) h = ap (λ (bs : List Bool). is_at bs y) same ∙ h
-
-    only : (x y : ℕ) → ((x ≡ u) × (row (set_row rows u r) x ≡ r)) ⊎ (row (set_row rows u r) x ≡ row rows x) → has (set_row rows u r) x y ≡ true → (has rows x y ≡ true) ⊎ ((x ≡ u) × (y ≡ q))
-    only x y (inl is) h = by (at_only (row rows u) q y (sym (ap (λ (bs : List Bool). is_at bs y) is.1) ∙ h))
+    set : (x y : ℕ) → (b : Bool) → nat_eq x u ≡ b → has (set_row rows u r) x y ≡ (has rows x y || (nat_eq x u && in_word at bits y))
+    set x y true e =
+        let is : x ≡ u = eqb-true x u e in
+        ap (λ (z : ℕ). has (set_row rows u r) z y) is ∙ ap (λ (t : List Bool). is_at t y) (row_same rows u r within) ∙ put.1 y
+        ∙ ap (λ (z : ℕ). has rows z y || in_word at bits y) (sym is)
+        ∙ ap (λ (b : Bool). has rows x y || (b && in_word at bits y)) (sym e)
+    set x y false e =
+        let other : x ≢ u = λ is. absurd (grind (arith, nat_tests, e, is)) in
+        ap (λ (t : List Bool). is_at t y) (row_other rows u x r other) ∙ or_nothing (has rows x y)
+        ∙ ap (λ (b : Bool). has rows x y || (b && in_word at bits y)) (sym e)
       where
-        by : (is_at (row rows u) y ≡ true) ⊎ (y ≡ q) → (has rows x y ≡ true) ⊎ ((x ≡ u) × (y ≡ q))
-        by (inl k) = inl (ap (λ (z : ℕ). has rows z y) is.0 ∙ k)
-        by (inr k) = inr (is.0, k)
-    only x y (inr same) h = inl (sym (ap (λ (bs : List Bool). is_at bs y) same) ∙ h)
+        or_nothing : (b : Bool) → b ≡ (b || false)
+        or_nothing true = refl
+        or_nothing false = refl
 
     width : (x : ℕ) → ((x ≡ u) × (row (set_row rows u r) x ≡ r)) ⊎ (row (set_row rows u r) x ≡ row rows x) → width_at (set_row rows u r) x ≡ width_at rows x
-    width x (inl is) = ap (λ (bs : List Bool). length bs) is.1 ∙ at_length (row rows u) q ∙ sym (ap (λ (z : ℕ). width_at rows z) is.0)
+    width x (inl is) = ap (λ (bs : List Bool). length bs) is.1 ∙ put.0 ∙ sym (ap (λ (z : ℕ). width_at rows z) is.0)
     width x (inr same) = ap (λ (bs : List Bool). length bs) same
+
+    stays : (q : ℕ) → is_at (row rows u) q ≡ true → is_at r q ≡ true
+    stays q h = put.1 q ∙ ap (λ (b : Bool). b || in_word at bits q) h
+
+    less : (w k : ℕ) → width_at rows u ≡ w → k < 64 → bit_at bits k ≡ 1 → has rows u (64 * at + k) ≡ false → suc (free w (set_row rows u r)) ≤ free w rows
+    less w k wide inside on off =
+        let quotient : (64 * at + k) / 64 ≡ at = omega (arith, inside) in
+        let rest : (64 * at + k) % 64 ≡ k = omega (arith, inside) in
+        let here : nat_eq ((64 * at + k) / 64) at ≡ true = grind (arith, nat_tests, quotient) in
+        let set_there : (bit_at bits ((64 * at + k) % 64) == 1) ≡ true = ap (λ (n : ℕ). bit_at bits n == 1) rest ∙ ap (λ (n : ℕ). n == 1) on in
+        free_fewer w rows u r within
+        (unset_fewer w (row rows u) r (64 * at + k) wide put.0 stays off
+        (put.1 (64 * at + k) ∙ (λ i. off i || (here i && set_there i))))
+
+pub emptied : (rows : List (List Bool)) (u : ℕ) → u < length rows → Emptied u rows (set_row rows u [])
+emptied rows u within = record { height = set_length rows u []; empty = row_same rows u [] within; others = λ x other. row_other rows u x [] other }
 
 pub pushed : (rows : List (List ℕ)) (u n : ℕ) → u < length rows → Pushed u n rows (set_row rows u (row rows u ++ n ∷ []))
 pushed rows u n within = record {
@@ -253,14 +268,6 @@ longer_at old new x i l less =
 
 pub within_rows : {X : Type 0} (rows : List (Vec X Global)) (n u : ℕ) → length (items_of rows) ≡ n → u < n → u < length rows
 within_rows {X} rows n u e less = subst (λ (m : ℕ). u < m) (sym e ∙ length-map rows (λ (r : Vec X Global). r.items)) less
-
-pub found_among : (xs : List ℕ) (n : ℕ) → list_any (nat_eq n) xs ≡ true → Contains xs n
-found_among [] n e = absurd cc
-found_among (x ∷ xs) n e = by (nat_eq n x) refl (λ k. found_among xs n k) e
-  where
-    by : (b : Bool) → nat_eq n x ≡ b → (list_any (nat_eq n) xs ≡ true → Contains xs n) → (b || list_any (nat_eq n) xs) ≡ true → Contains (x ∷ xs) n
-    by true is below k = (0, search rules, sym (eqb-true n x is))
-    by false is below k = Contains-append_right (x ∷ []) xs n (below k)
 
 -- what is read of rows that are lent
 

@@ -1,7 +1,7 @@
 -- The numbers of a service: of its configurations, of the references that its variables and lists may hold, and of the sets.
 -- The configurations that are reached are the members of one set, those to which a configuration leads of another; and
 -- each variable of references and each list has a set in each configuration in which it is present.
-use Rattle.std.specs.Prelude.{false, Bool, ◌≡◌, ◌<◌, true, slice_get, ℕ, suc, ◌+◌, ◌^◌, nat_lt, if◌then◌else◌, List, [], ◌∷◌, ◌++◌, length, map, position, Option, Some, None, option_and_then}
+use Rattle.std.specs.Prelude.{false, Bool, ◌≡◌, ◌<◌, true, slice_get, ℕ, suc, ◌+◌, ◌^◌, nat_lt, ◌||◌, if◌then◌else◌, List, [], ◌∷◌, ◌++◌, length, map, position, Option, Some, None, option_and_then}
 use Rattle.std.specs.List.{IsDistinct, flat_map, list_any}
 use Rattle.std.specs.Map.{lookup}
 use Rattle.std.specs.Option.{option_or, option_to_list}
@@ -102,19 +102,29 @@ abbrev pub target_variables : Target → List ObjRef
 target_variables (target.Direct r) = []
 target_variables (target.Through v) = v ∷ []
 
--- the action hands references on, reads them out of a list, or leads to a group
-abbrev pub goes_on : ActionName → Bool
-goes_on action.SetVariable = true
-goes_on action.AddItem = true
-goes_on action.GetListItem = true
-goes_on action.GetCellItem = true
-goes_on action.TransitionTo = true
-goes_on action.Launch = true
-goes_on _ = false
+-- the argument is a reference, or what a variable has
+abbrev pub hands_on : Option Argument → Bool
+hands_on None = false
+hands_on (Some (argument.Direct (value.Object q))) = true
+hands_on (Some (argument.Direct x)) = false
+hands_on (Some (argument.Through x k)) = true
+hands_on (Some (argument.Receiver x)) = false
+
+-- the action reads references out of a list, or leads to a group
+abbrev pub leads_on : ActionName → Bool
+leads_on action.GetListItem = true
+leads_on action.GetCellItem = true
+leads_on action.TransitionTo = true
+leads_on action.Launch = true
+leads_on _ = false
+
+-- the action goes on from where its target comes to: it hands something on, or leads on
+abbrev pub goes_on : Act → Bool
+goes_on a = hands_on (handed_argument a) || leads_on a.name
 
 -- the variable through which such an action has its target
 abbrev pub targeted_by : Act → List ObjRef
-targeted_by a = if goes_on a.name then target_variables a.target else []
+targeted_by a = if goes_on a then target_variables a.target else []
 
 abbrev pub targeted_of : Fixed → List ObjRef
 targeted_of p = flat_map targeted_by (actions p)

@@ -1,6 +1,8 @@
 pub mod Orders
 pub mod Rows
 pub mod Constraints
+pub mod Edging
+pub mod Membership
 pub mod Gathering
 pub mod Sets
 pub mod Equipment
@@ -8,6 +10,7 @@ pub mod Index
 pub mod Likely
 pub mod Sites
 pub mod Chart
+pub mod Walks
 pub mod Opening
 pub mod Solved
 pub mod Bridge

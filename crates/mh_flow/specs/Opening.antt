@@ -17,7 +17,7 @@ use Rattle.mh_model.specs.Arguments.{receivers}
 use Rattle.mh_model.specs.Configuration.{present, starting}
 use Rattle.mh_model.specs.Reference.{same_ref}
 use Rattle.mh_model.specs.Service.{Service, group_parts}
-use Rattle.mh_laws.specs.Active.{active_actions, leads_to}
+use Rattle.mh_laws.specs.Active.{active_actions, is_active, leads_to}
 use Rattle.mh_laws.specs.Flow.{fills, is_given, is_holder, is_list_in, is_reference_in}
 use Rattle.mh_flow.specs.declared.chart.Set.{Set}
 use Rattle.mh_flow.specs.declared.chart.Set.TheVariants as set
@@ -27,6 +27,7 @@ use Rattle.mh_flow.specs.declared.fixpoint.constraints.Item.TheVariants as item
 use Rattle.mh_flow.specs.declared.chart.Bases.{Bases}
 use Rattle.mh_flow.specs.Chart.{Chart, config_number, firsts, member_of, node_from, handed_argument}
 use Rattle.mh_flow.specs.Constraints.{ConstraintSystem}
+use Rattle.mh_flow.specs.Walks.{Walk}
 
 -- a service with its numbers
 pub record Numbered : Type 0 where
@@ -107,6 +108,10 @@ does_direct v ch k c b a (target.Through w) = []
 abbrev pub does_through : Service → Chart → ℕ → Config → Bases → ObjRef → ObjRef → Act → Target → List Item
 does_through v ch k c b w r a (target.Direct x) = []
 does_through v ch k c b w r a (target.Through x) = if same_ref x w then does v ch k c b a r else []
+
+-- an action that goes on through the variable, where it is active
+abbrev pub walked : Service → Chart → ℕ → Config → Bases → ObjRef → Walk → List Item
+walked v ch k c b r x = if is_active (present v c) x.part then does v ch k c b x.act r else []
 
 -- Members
 

@@ -1,5 +1,5 @@
 -- Rows of bits and of numbers.
-use Rattle.std.specs.Prelude.{◌≡◌, ◌⊎◌, ℕ, zero, suc, ◌+◌, ◌/◌, ◌%◌, ◌==◌, if◌then◌else◌, Bool, true, false, List, [], ◌∷◌, ◌++◌, length, map, replicate, Vec}
+use Rattle.std.specs.Prelude.{◌≡◌, ◌≢◌, ◌⊎◌, ℕ, zero, suc, ◌+◌, ◌*◌, ◌/◌, ◌%◌, ◌<◌, ◌≤◌, ◌==◌, ◌&&◌, ◌||◌, nat_eq, if◌then◌else◌, Bool, true, false, List, [], ◌∷◌, ◌++◌, length, map, replicate, Vec}
 use Rattle.std.specs.declared.alloc.Global.{Global}
 use Rattle.std.specs.List.{Contains, slice_index}
 use Rattle.std.specs.Int.{bit_at}
@@ -32,11 +32,17 @@ abbrev pub bits_from : List ℕ → ℕ → ℕ → List Bool
 bits_from ws i zero = []
 bits_from ws i (suc n) = is_bit ws i ∷ bits_from ws (suc i) n
 
--- the row with this bit set
-abbrev pub set_at : List Bool → ℕ → List Bool
-set_at [] q = []
-set_at (b ∷ bs) zero = true ∷ bs
-set_at (b ∷ bs) (suc q) = b ∷ set_at bs q
+-- the word at a place of a row; behind the end no bit is set
+abbrev pub IsWord : List Bool → ℕ → ℕ → Type 0
+IsWord bs at w = (k : ℕ) → k < 64 → is_at bs (64 * at + k) ≡ (bit_at w k == 1)
+
+-- whether a bit of a row is one of those that are set in a word at this place
+abbrev pub in_word : ℕ → ℕ → ℕ → Bool
+in_word at bits q = nat_eq (q / 64) at && (bit_at bits (q % 64) == 1)
+
+-- the bits of the word are set, and no other is changed
+abbrev pub HasPut : ℕ → ℕ → List Bool → List Bool → Type 0
+HasPut at bits old new = (length new ≡ length old) × ((q : ℕ) → is_at new q ≡ (is_at old q || in_word at bits q))
 
 -- the places of the bits that are set, counted from this number up
 abbrev pub places_from : ℕ → List Bool → List ℕ
@@ -63,18 +69,22 @@ laid w (b ∷ bs) = b ∷ bs
 pub record LaidOut (w u : ℕ) (old new : List (List Bool)) : Type 0 where
   pub laid : width_at new u ≡ w
   pub height : length new ≡ length old
-  pub width : (x : ℕ) → (width_at new x ≡ width_at old x) ⊎ (width_at new x ≡ w)
+  pub width : (x : ℕ) → (width_at new x ≡ width_at old x) ⊎ ((x ≡ u) × (width_at new x ≡ w))
   pub same : (x y : ℕ) → has new x y ≡ has old x y
   pub rest : free w new ≡ free w old
 
--- this bit is set, and no other is changed
-pub record Marked (u q : ℕ) (old new : List (List Bool)) : Type 0 where
-  pub set : has new u q ≡ true
-  pub kept : (x y : ℕ) → has old x y ≡ true → has new x y ≡ true
-  pub only : (x y : ℕ) → has new x y ≡ true → (has old x y ≡ true) ⊎ ((x ≡ u) × (y ≡ q))
+-- the bits of a word of this row are set, and no other is changed
+pub record WordPut (u at bits : ℕ) (old new : List (List Bool)) : Type 0 where
+  pub set : (x y : ℕ) → has new x y ≡ (has old x y || (nat_eq x u && in_word at bits y))
   pub height : length new ≡ length old
   pub width : (x : ℕ) → width_at new x ≡ width_at old x
-  pub less : (w : ℕ) → width_at old u ≡ w → suc (free w new) ≡ free w old
+  pub less : (w k : ℕ) → width_at old u ≡ w → k < 64 → bit_at bits k ≡ 1 → has old u (64 * at + k) ≡ false → suc (free w new) ≤ free w old
+
+-- this row is empty, and no other is changed
+pub record Emptied (u : ℕ) (old new : List (List Bool)) : Type 0 where
+  pub height : length new ≡ length old
+  pub empty : row new u ≡ []
+  pub others : (x : ℕ) → x ≢ u → row new x ≡ row old x
 
 -- the rows are as they were, but for what stands behind their ends
 abbrev pub AreLonger : List (List ℕ) → List (List ℕ) → Type 0

@@ -1,5 +1,5 @@
 -- The flow that rows of bits say, by the numbers of a service.
-use Rattle.std.specs.Prelude.{ℕ, Bool, false, if◌then◌else◌, List, [], filter, map, slice_get, option_and_then, unwrap_or}
+use Rattle.std.specs.Prelude.{ℕ, ◌<◌, Bool, false, if◌then◌else◌, List, [], filter, length, map, slice_get, option_and_then, unwrap_or}
 use Rattle.std.specs.List.{filter_map}
 use Rattle.std.specs.Option.{option_map_or}
 use Rattle.mh_base.specs.declared.obj_ref.ObjRef.{ObjRef}
@@ -8,11 +8,12 @@ use Rattle.mh_model.specs.declared.object.Fixed.{Fixed}
 use Rattle.mh_model.specs.Configuration.{present}
 use Rattle.mh_model.specs.Known.{class_at}
 use Rattle.mh_model.specs.Service.{Service}
+use Rattle.mh_laws.specs.Each.{Each}
 use Rattle.mh_laws.specs.Flow.{Flow, is_holder}
 use Rattle.mh_laws.specs.Least.{IsLeast}
 use Rattle.mh_flow.specs.Chart.{Chart, IsChart, config_number, node_of, place_in}
 use Rattle.mh_flow.specs.Opening.{system_of}
-use Rattle.mh_flow.specs.Rows.{has}
+use Rattle.mh_flow.specs.Rows.{has, places_from}
 use Rattle.mh_flow.specs.Sets.{IsLeast as IsSolved, members_of}
 
 -- a flow by numbers: what the numbers are, and the rows of bits
@@ -30,6 +31,17 @@ reached_configs ch rows = filter (is_reached ch rows) (map (λ e. e.0) ch.config
 -- the references with these numbers
 abbrev pub named : List ObjRef → List ℕ → List ObjRef
 named qs ns = filter_map (slice_get qs) ns
+
+-- those whose bits are set in the row
+abbrev pub named_in : List ObjRef → List Bool → List ObjRef
+named_in qs r = named qs (places_from 0 r)
+
+-- lists under numbers, all of which are there
+abbrev pub list_at : List (List ObjRef) → ℕ → List ObjRef
+list_at ls n = unwrap_or (slice_get ls n) []
+
+abbrev pub AreWithin : List (List ObjRef) → List ℕ → Type 0
+AreWithin ls ns = Each (λ n. n < length ls) ns
 
 -- what the object at a reference holds, which is a variable or a list
 abbrev pub is_holder_in : List Fixed → ObjRef → Bool

@@ -4,7 +4,9 @@
 
 pub(crate) mod bits;
 pub(crate) mod constraints;
+pub(crate) mod edges;
 pub(crate) mod gathered;
+pub(crate) mod members;
 pub(crate) mod rows;
 pub(crate) mod sets;
 
@@ -22,12 +24,12 @@ pub fn solve<R: Rules>(alloc: Global, rules: &R) -> Result<Sets, AllocError>
     requires { IsFit (R.system rules.now) }
     ensures { IfOk result (λ sets. IsLeast (R.system rules.now) sets) }
 {
-    let mut gathered = Gathered::nothing(alloc, rules.nodes())?;
+    let mut gathered = Gathered::nothing(alloc, rules.nodes(), rules.width())?;
     let mut items = Vec::new(alloc);
     rules.starts(&mut items)?;
     gathered.put_each(rules, items.as_slice())?;
-    while let Some(fact) = gathered.pending.pop() {
-        gathered.follow(rules, fact, &mut items)?;
+    while let Some((node, row)) = gathered.members.take_waiting() {
+        gathered.follow(rules, node, &row, &mut items)?;
     }
-    Ok(Sets::of(gathered.bits))
+    Ok(gathered.into_sets())
 }

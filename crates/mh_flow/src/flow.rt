@@ -11,13 +11,14 @@ ghost use Rattle.mh_flow.specs.Sets.{members_of};
 ghost use Rattle.mh_laws.specs.Least.{Derived, Held as IsHeld};
 ghost use Rattle.mh_flow.specs.Bridge.{is_held_at};
 ghost use Rattle.mh_flow.specs.Index.{indexed};
-ghost use Rattle.mh_flow.specs.Solved.{IsFlowOf, held_by, held_in, named, reached_configs, set_of};
+ghost use Rattle.mh_flow.specs.Solved.{IsFlowOf, held_by, held_in, named, named_in, reached_configs, set_of};
 
 use crate::chart::Chart;
 use crate::equipped::Equipped;
 use crate::fixpoint::sets::Sets;
+use crate::lists::Lists;
 use crate::present::Present;
-use mh_base::ObjRef;
+use mh_base::{ObjRef, Shared};
 use mh_model::{Config, Fixed, FixedPart};
 use std::alloc::{AllocError, Global};
 use std::marker::Model;
@@ -27,29 +28,33 @@ use std::marker::Model;
 pub struct Flow {
     chart: Chart,
     sets: Sets,
+    lists: Lists,
 }
 
 impl Model for Flow {
-    ghost use Rattle.mh_flow.specs.Solved.{Solved};
+    ghost use Rattle.std.specs.Prelude.{◌≡◌, map};
+    ghost use Rattle.mh_flow.specs.Solved.{Solved, named_in};
 
     ghost Value = { Solved };
 
     ghost view = { λ f. record { chart = f.chart; rows = f.sets } };
+
+    ghost invariant = { λ f. f.lists ≡ map (named_in f.chart.members) f.sets };
 }
 
 /// What the objects of a configuration hold: a list for each, in the order in which they are present.
 #[derive(Drop)]
 pub struct Held {
-    lists: Vec<Vec<ObjRef>>,
+    lists: Vec<Option<Shared<ObjRef>>>,
 }
 
 impl Model for Held {
-    ghost use Rattle.std.specs.Prelude.{List, map};
+    ghost use Rattle.std.specs.Prelude.{[], List, map, unwrap_or};
     ghost use Rattle.mh_base.specs.declared.obj_ref.ObjRef.{ObjRef as ObjRefValue};
 
     ghost Value = { List (List ObjRefValue) };
 
-    ghost view = { λ h. map (λ l. l.items) h.lists.items };
+    ghost view = { λ h. map (λ l. unwrap_or l []) h.lists.items };
 }
 
 impl Held {
@@ -68,17 +73,20 @@ impl Held {
         ensures { result.now ≡ unwrap_or (slice_get self.now place) [] }
     {
         match self.lists.get(place) {
-            None => &[],
-            Some(list) => list.as_slice(),
+            Some(Some(list)) => list.as_slice(),
+            _ => &[],
         }
     }
 }
 
 impl Flow {
-    pub(crate) fn new(chart: Chart, sets: Sets) -> Flow
-        ensures { result ≡ record { chart = chart; rows = sets } }
+    /// The flow of these sets, with what each has.
+    pub(crate) fn new(chart: Chart, found: (Sets, Lists)) -> Flow
+        requires { found.1 ≡ map (named_in chart.members) found.0 }
+        ensures { result ≡ record { chart = chart; rows = found.0 } }
     {
-        Flow { chart, sets }
+        let (sets, lists) = found;
+        Flow { chart, sets, lists }
     }
 
     /// The configurations that are reached.
@@ -135,15 +143,14 @@ impl Flow {
         let present = self.present(service, config);
         let (application, scene) = present.parts();
         let mut lists = Vec::with_capacity(alloc, application.len() + scene.len())?;
-        self.push_held(alloc, &mut lists, service, &present, config, application)?;
-        self.push_held(alloc, &mut lists, service, &present, config, scene)?;
+        self.push_held(&mut lists, service, &present, config, application)?;
+        self.push_held(&mut lists, service, &present, config, scene)?;
         Ok(Held { lists })
     }
 
     fn push_held(
         &self,
-        alloc: Global,
-        lists: &mut Vec<Vec<ObjRef>>,
+        lists: &mut Vec<Option<Shared<ObjRef>>>,
         service: &Equipped<'_>,
         present: &Present<'_>,
         config: &Config,
@@ -152,11 +159,11 @@ impl Flow {
         requires flow { IsFlowOf service.now self.now }
         requires present { present.now ≡ present_there service.now config.now }
         requires among { (p : _) → Contains parts.now p → Contains present.now p }
-        ensures { OnOk result (map (λ l. l.items) lists.new.items ≡ map (λ l. l.items) lists.old.items
+        ensures { OnOk result (map (λ l. unwrap_or l []) lists.new.items ≡ map (λ l. unwrap_or l []) lists.old.items
             ++ map (λ p. set_of service.now self.now.chart self.now.rows config.now p.key) parts.now) }
     {
         for part in parts {
-            let list = self.set_of(alloc, service, present, config, part.get())?;
+            let list = self.set_of(service, present, config, part.get())?;
             lists.push(list)?;
         }
         Ok(())
@@ -165,49 +172,35 @@ impl Flow {
     /// What the object holds, which is present.
     fn set_of(
         &self,
-        alloc: Global,
         service: &Equipped<'_>,
         present: &Present<'_>,
         config: &Config,
         part: &Fixed,
-    ) -> Result<Vec<ObjRef>, AllocError>
+    ) -> Result<Option<Shared<ObjRef>>, AllocError>
         requires flow { IsFlowOf service.now self.now }
         requires present { present.now ≡ present_there service.now config.now }
         requires among { Contains present.now part.now }
-        ensures { IfOk result (λ set. set.items
+        ensures { IfOk result (λ set. unwrap_or set []
             ≡ set_of service.now self.now.chart self.now.rows config.now part.now.key) }
     {
         if present.is_holder(part) {
-            self.list_of(alloc, self.chart.node_of(config, &part.key))
+            self.list_of(self.chart.node_of(config, &part.key))
         } else {
-            Ok(Vec::new(alloc))
+            Ok(None)
         }
     }
 
-    /// The members of the set with this number.
-    fn list_of(&self, alloc: Global, node: Option<usize>) -> Result<Vec<ObjRef>, AllocError>
-        ensures { IfOk result (λ list. list.items
+    /// What the set with this number has.
+    fn list_of(&self, node: Option<usize>) -> Result<Option<Shared<ObjRef>>, AllocError>
+        ensures { IfOk result (λ list. unwrap_or list []
             ≡ option_map_or (λ u. named self.now.chart.members (members_of self.now.rows u)) node []) }
     {
         match node {
-            None => Ok(Vec::new(alloc)),
+            None => Ok(None),
             Some(node) => {
-                let numbers = self.sets.members(alloc, node)?;
-                self.references(alloc, numbers.as_slice())
+                let list = self.lists.share(node)?;
+                Ok(list)
             }
         }
-    }
-
-    /// The references with these numbers.
-    fn references(&self, alloc: Global, numbers: &[usize]) -> Result<Vec<ObjRef>, AllocError>
-        ensures { IfOk result (λ list. list.items ≡ named self.now.chart.members numbers.now) }
-    {
-        let mut list = Vec::with_capacity(alloc, numbers.len())?;
-        for number in numbers {
-            if let Some(at) = self.chart.member_at(*number) {
-                list.push(at.clone()?)?;
-            }
-        }
-        Ok(list)
     }
 }

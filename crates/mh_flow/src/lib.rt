@@ -15,6 +15,7 @@ mod flow;
 mod index;
 mod known;
 mod law;
+mod lists;
 mod opening;
 pub mod order;
 mod present;

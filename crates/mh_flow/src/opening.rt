@@ -7,29 +7,35 @@ pub(crate) mod doing;
 pub(crate) mod leading;
 pub(crate) mod numbered_config;
 pub(crate) mod reaching;
+pub(crate) mod walks;
 
-ghost use Rattle.std.specs.Prelude.{◌≡◌, ◌++◌, [], IfOk, OnOk, slice_get};
+ghost use Rattle.std.specs.Prelude.{◌≡◌, ◌++◌, [], ℕ, false, Option, IfOk, OnOk, slice_get};
 ghost use Rattle.std.specs.Option.{option_map_or};
 ghost use Rattle.mh_model.specs.Configuration.{starting};
+ghost use Rattle.mh_base.specs.declared.obj_ref.ObjRef.{ObjRef as ObjRefValue};
 ghost use Rattle.mh_flow.specs.Opening as spec;
 
 use crate::chart::{Chart, Set};
 use crate::equipped::Equipped;
 use crate::fixpoint::constraints::{Fact, Item, Rules};
 use crate::opening::numbered_config::{NumberedConfig, push_member};
+use crate::opening::walks::Walks;
+use mh_base::ObjRef;
 use mh_model::Config;
 use std::alloc::{AllocError, Global};
 use std::marker::Model;
 
-/// A service and its numbers.
+/// A service and its numbers, and its actions by the variables through which they go on.
 #[derive(Drop)]
-pub(crate) struct Opening<'a> {
+pub(crate) struct Opening<'a, 's> {
     pub alloc: Global,
     pub service: &'a Equipped<'a>,
     pub chart: &'a Chart,
+    pub walks: &'a Walks<'s>,
 }
 
-impl<'a> Model for Opening<'a> {
+impl<'a, 's> Model for Opening<'a, 's> {
+    ghost use Rattle.std.specs.Prelude.{◌≡◌};
     ghost use Rattle.mh_flow.specs.Chart.{IsChart};
     ghost use Rattle.mh_flow.specs.Opening.{Numbered};
 
@@ -37,10 +43,10 @@ impl<'a> Model for Opening<'a> {
 
     ghost view = { λ o. record { service = o.service.now; chart = o.chart.now } };
 
-    ghost invariant = { λ o. IsChart o.service.now o.chart.now };
+    ghost invariant = { λ o. IsChart o.service.now o.chart.now × (o.walks.now ≡ o.service.now) };
 }
 
-impl<'a> Rules for Opening<'a> {
+impl<'a, 's> Rules for Opening<'a, 's> {
     ghost use Rattle.mh_flow.specs.Opening.{system_of};
 
     ghost system = { λ o. system_of o.service o.chart };
@@ -58,6 +64,14 @@ impl<'a> Rules for Opening<'a> {
     fn starts(&self, items: &mut Vec<Item>) -> Result<(), AllocError> {
         let start = starting(self.service)?;
         push_member(items, Some(0), self.chart.config_number(&start))
+    }
+
+    fn opens_at(&self, node: usize) -> bool {
+        match self.chart.set_at(node) {
+            None => false,
+            Some(Set::Held(config, place)) => self.is_walked(config, place),
+            Some(_) => true,
+        }
     }
 
     fn open(&self, fact: Fact, items: &mut Vec<Item>) -> Result<(), AllocError> {
@@ -80,9 +94,9 @@ fn starting(service: &Equipped<'_>) -> Result<Config, AllocError>
     })
 }
 
-impl<'a> Opening<'a> {
+impl<'a, 's> Opening<'a, 's> {
     /// The configuration with this number.
-    fn place(&self, number: usize) -> Option<NumberedConfig<'a>>
+    fn place(&self, number: usize) -> Option<NumberedConfig<'a, 's>>
         ensures { result ≡ spec.place_of self.now.service self.now.chart number }
     {
         match self.chart.config_at(number) {
@@ -90,11 +104,23 @@ impl<'a> Opening<'a> {
             Some((config, bases)) => Some(NumberedConfig {
                 service: self.service,
                 chart: self.chart,
+                walks: self.walks,
                 number,
                 config,
                 bases,
                 present: self.chart.present(self.service, config),
             }),
+        }
+    }
+
+    /// Whether the object at this place of a configuration opens anything with what it holds.
+    fn is_walked(&self, config: usize, place: usize) -> bool
+        ensures { let v = self.now.service in let ch = self.now.chart in
+            result ≡ false → (q : ℕ) → spec.opened_in v ch q (Set.Held config place) ≡ [] }
+    {
+        match self.place(config) {
+            None => false,
+            Some(there) => there.is_walked_at(place),
         }
     }
 
@@ -136,12 +162,29 @@ impl<'a> Opening<'a> {
     {
         match self.place(config) {
             None => Ok(()),
-            Some(there) => there.push_object(
-                self.alloc,
-                items,
-                place,
-                self.chart.member_at(member),
-            ),
+            Some(there) => there.push_object(items, place, self.chart.member_at(member)),
         }
+    }
+}
+
+impl<'a, 's> NumberedConfig<'a, 's> {
+    /// Whether the object at this place is a variable of references through which an action has its target.
+    fn is_walked_at(&self, place: usize) -> bool
+        ensures { let p = self.now in
+            result ≡ false → (q : Option ObjRefValue) → spec.by_object p.service p.chart p.number p.config p.bases q
+            (slice_get (spec.present_in p) place) ≡ [] }
+    {
+        match self.present.at(place) {
+            None => false,
+            Some(part) => self.is_target(&part.key),
+        }
+    }
+
+    fn is_target(&self, variable: &ObjRef) -> bool
+        ensures { let p = self.now in
+            result ≡ false → (q : Option ObjRefValue)
+            → spec.by_variable p.service p.chart p.number p.config p.bases variable.now q ≡ [] }
+    {
+        self.chart.is_targeted(variable) && self.is_reference(variable)
     }
 }

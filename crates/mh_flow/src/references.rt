@@ -149,30 +149,56 @@ pub(crate) fn put_handed(held: &mut IndexSet<ObjRef>, act: &Act) -> Result<(), A
     put_some(held, written(handed(act)))
 }
 
-/// Puts the variable among these through which the target goes, if it goes through one.
-fn put_variable(targeted: &mut IndexSet<ObjRef>, target: &Target) -> Result<(), AllocError>
-    ensures { OnOk result (targeted.new.keys
-        ≡ spec.with_references targeted.old.keys (spec.target_variables target.now)) }
+/// Whether the argument is a reference, or what a variable has.
+fn hands_on(argument: Option<&Argument>) -> bool
+    ensures { result ≡ spec.hands_on (option_copied argument.entry) }
 {
-    if let Target::Through(variable) = target {
-        put(targeted, variable)?;
+    match argument {
+        Some(Argument::Direct(Value::Object(_))) => true,
+        Some(Argument::Through(_, _)) => true,
+        _ => false,
     }
-    Ok(())
 }
 
-/// Whether the action hands references on, reads them out of a list, or leads to a group.
-fn goes_on(action: ActionName) -> bool
-    ensures { result ≡ spec.goes_on action }
+/// Whether the action reads references out of a list, or leads to a group.
+fn leads_on(action: ActionName) -> bool
+    ensures { result ≡ spec.leads_on action }
 {
     matches!(
         action,
-        ActionName::SetVariable
-            | ActionName::AddItem
-            | ActionName::GetListItem
+        ActionName::GetListItem
             | ActionName::GetCellItem
             | ActionName::TransitionTo
             | ActionName::Launch
     )
+}
+
+/// Whether the action goes on from where its target comes to: it hands something on, or leads on.
+pub(crate) fn goes_on(act: &Act) -> bool
+    ensures { result ≡ spec.goes_on act.now }
+{
+    hands_on(handed(act)) || leads_on(act.name)
+}
+
+/// The variable through which the target goes, if it goes through one.
+fn variable_of(target: &Target) -> Option<&ObjRef>
+    ensures { option_to_list (option_copied result) ≡ spec.target_variables target.now }
+{
+    match target {
+        Target::Direct(_) => None,
+        Target::Through(variable) => Some(variable),
+    }
+}
+
+/// The variable through which the action has its target, if it goes on from there.
+pub(crate) fn targeted_by(act: &Act) -> Option<&ObjRef>
+    ensures { option_to_list (option_copied result) ≡ spec.targeted_by act.now }
+{
+    if goes_on(act) {
+        variable_of(&act.target)
+    } else {
+        None
+    }
 }
 
 /// Puts the variable among these through which the action has its target, if it goes on from there.
@@ -180,10 +206,7 @@ fn put_target(targeted: &mut IndexSet<ObjRef>, act: &Act) -> Result<(), AllocErr
     ensures { OnOk result (targeted.new.keys
         ≡ spec.with_references targeted.old.keys (spec.targeted_by act.now)) }
 {
-    if goes_on(act.name) {
-        put_variable(targeted, &act.target)?;
-    }
-    Ok(())
+    put_some(targeted, targeted_by(act))
 }
 
 /// What the actions at these sites hand on goes among the one, the variables through which they have their targets

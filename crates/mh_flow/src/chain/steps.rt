@@ -8,6 +8,7 @@ ghost use Rattle.mh_flow.specs.Steps as spec;
 use crate::chain::moves::Move;
 use crate::chain::searched_config::{SearchedConfig, holder_at, push_stays};
 use crate::present::leads_to;
+use crate::references::goes_on;
 use crate::sites::{Site, sites_of};
 use mh_base::ObjRef;
 use mh_model::{Config, Fixed, FixedPart, Target};
@@ -109,11 +110,15 @@ impl<'a> SearchedConfig<'a> {
         }
     }
 
-    /// What the action does wherever its target may come.
+    /// What the action does wherever its target may come: nothing, if it does not go on.
     fn push_site(&self, moves: &mut Vec<Move>, site: &Site<'_>) -> Result<(), AllocError>
         ensures { let g = spec.ground_of self.now in OnOk result (moves.new.items ≡ moves.old.items ++ spec.site_moves g site.now) }
     {
-        self.push_all_done(moves, site, self.targets(&site.act.target))
+        if goes_on(site.act) {
+            self.push_all_done(moves, site, self.targets(&site.act.target))
+        } else {
+            Ok(())
+        }
     }
 
     fn push_sites(&self, moves: &mut Vec<Move>, sites: &[Site<'_>]) -> Result<(), AllocError>

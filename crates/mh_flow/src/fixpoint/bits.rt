@@ -1,8 +1,9 @@
 //! A row of bits, kept in words of 64.
 //!
-//! Promise: a row is seen as the list of its bits; it is empty until a width is given, and then has this many.
-ghost use Rattle.std.specs.Prelude.{◌≡◌, ◌<◌, ◌≤◌, ◌++◌, [], drop, length, replicate, ◌*◌, IfOk, OnOk};
-ghost use Rattle.mh_flow.specs.Rows.{is_at, is_bit, laid, set_at, places_from};
+//! Promise: a row is seen as the list of its bits; it is empty until it is laid out, and then has 64 bits a word.
+ghost use Rattle.std.specs.Int.{bit_at};
+ghost use Rattle.std.specs.Prelude.{◌≡◌, true, ◌==◌, ◌<◌, ◌≤◌, ◌+◌, ◌*◌, ◌^◌, ◌++◌, [], drop, length, replicate, IfOk, OnOk};
+ghost use Rattle.mh_flow.specs.Rows.{is_at, laid, places_from, IsWord, HasPut};
 
 use std::alloc::{AllocError, Global};
 use std::marker::Model;
@@ -11,18 +12,17 @@ use std::marker::Model;
 #[derive(Drop)]
 pub struct Bits {
     words: Vec<u64>,
-    width: usize,
 }
 
 impl Model for Bits {
-    ghost use Rattle.std.specs.Prelude.{List, Bool, ◌≤◌, ◌*◌, length};
+    ghost use Rattle.std.specs.Prelude.{List, Bool, ◌*◌, ◌≤◌, ◌^◌, length};
     ghost use Rattle.mh_flow.specs.Rows.{bits_from};
 
     ghost Value = { List Bool };
 
-    ghost view = { λ b. bits_from b.words.items 0 b.width };
+    ghost view = { λ b. bits_from b.words.items 0 (64 * length b.words.items) };
 
-    ghost invariant = { λ b. b.width ≤ 64 * length b.words.items };
+    ghost invariant = { λ b. 64 * length b.words.items ≤ 2 ^ 64 };
 }
 
 impl Bits {
@@ -32,36 +32,51 @@ impl Bits {
     {
         Bits {
             words: Vec::new(alloc),
-            width: 0,
         }
     }
 
-    /// Gives an empty row this many bits, none of which is set.
-    pub fn lay_out(&mut self, width: usize) -> Result<(), AllocError>
-        ensures { OnOk result (self.new ≡ laid width self.old) }
+    /// How many words it has.
+    pub fn words(&self) -> usize
+        ensures { 64 * result ≡ length self.now }
     {
-        if self.width == 0 {
-            self.words.clear();
-            // One word more than is filled, so that no sum can be too large.
-            push_zeros(&mut self.words, width / 64 + 1)?;
-            self.width = width;
+        self.words.len()
+    }
+
+    /// Gives an empty row this many words, of which no bit is set.
+    pub fn lay_out(&mut self, words: usize) -> Result<(), AllocError>
+        requires { 64 * words ≤ 2 ^ 64 }
+        ensures { OnOk result (self.new ≡ laid (64 * words) self.old) }
+    {
+        if self.words.is_empty() {
+            push_zeros(&mut self.words, words)?;
         }
         Ok(())
+    }
+
+    /// The word at this place, which is 0 behind the last one.
+    pub fn word(&self, at: usize) -> u64
+        ensures { IsWord self.now at result }
+    {
+        if at < self.words.len() {
+            self.words[at]
+        } else {
+            0
+        }
+    }
+
+    /// Sets the bits of a word.
+    pub fn put(&mut self, at: usize, bits: u64)
+        requires { 64 * at < length self.old }
+        ensures { HasPut at bits self.old self.new }
+    {
+        self.words[at] |= bits;
     }
 
     /// Whether the bit is set.
     pub fn has(&self, place: usize) -> bool
         ensures { result ≡ is_at self.now place }
     {
-        place < self.width && is_bit(self.words.as_slice(), place)
-    }
-
-    /// Sets the bit.
-    pub fn set(&mut self, place: usize)
-        requires { place < length self.old }
-        ensures { self.new ≡ set_at self.old place }
-    {
-        self.words[place / 64] |= 1 << (place % 64);
+        is_set(self.word(place / 64), place % 64)
     }
 
     /// The places of the bits that are set. A word of which none is set is passed over at once.
@@ -69,39 +84,56 @@ impl Bits {
         ensures { IfOk result (λ found. found.items ≡ places_from 0 self.now) }
     {
         let mut found = Vec::new(alloc);
-        let whole = self.width / 64;
-        for word in 0..whole {
-            if self.words[word] != 0 {
-                self.put_between(&mut found, word * 64, word * 64 + 64)?;
+        for at in 0..self.words.len() {
+            if self.words[at] != 0 {
+                self.put_places(&mut found, at)?;
             }
         }
-        self.put_between(&mut found, whole * 64, self.width)?;
         Ok(found)
     }
 
-    /// Puts the places from the first up to the end, of which the bits are set, behind those that were found.
-    fn put_between(
-        &self,
-        found: &mut Vec<usize>,
-        first: usize,
-        end: usize,
-    ) -> Result<(), AllocError>
-        requires order { first ≤ end }
-        requires within { end ≤ length self.now }
-        ensures { OnOk result (found.new.items ++ places_from end (drop end self.now)
-            ≡ found.old.items ++ places_from first (drop first self.now)) }
+    /// Puts the places of the bits that are set in a word behind those that were found.
+    fn put_places(&self, found: &mut Vec<usize>, at: usize) -> Result<(), AllocError>
+        requires { 64 * at < length self.now }
+        ensures { OnOk result (found.new.items ++ places_from (64 * at + 64) (drop (64 * at + 64) self.now)
+            ≡ found.old.items ++ places_from (64 * at) (drop (64 * at) self.now)) }
     {
-        for place in first..end {
-            if self.has(place) {
-                found.push(place)?;
+        let word = self.words[at];
+        for bit in 0..64 {
+            if is_set(word, bit) {
+                found.push(64 * at + bit)?;
             }
         }
         Ok(())
     }
+
+    /// Whether both are known to be the same bits.
+    pub fn is_alike(&self, other: &Bits) -> bool
+        ensures { result ≡ true → self.now ≡ other.now }
+    {
+        are_alike(self.words.as_slice(), other.words.as_slice())
+    }
+
+    /// A number that is the same for the same bits.
+    pub fn mark(&self) -> u64 {
+        let mut mark: u64 = 0;
+        for word in &self.words {
+            mark = (mark.rotate_left(5) ^ *word).wrapping_mul(0x9E37_79B9_7F4A_7C15);
+        }
+        mark
+    }
+}
+
+/// Whether both are the same words.
+fn are_alike(first: &[u64], second: &[u64]) -> bool
+    ensures { result ≡ true → first.now ≡ second.now }
+{
+    first == second
 }
 
 fn push_zeros(words: &mut Vec<u64>, count: usize) -> Result<(), AllocError>
-    ensures { OnOk result (words.new.items ≡ words.old.items ++ replicate count 0) }
+    ensures zeros { OnOk result (words.new.items ≡ words.old.items ++ replicate count 0) }
+    ensures short { length words.new.items ≤ length words.old.items + count }
 {
     words.reserve(count)?;
     for _ in 0..count {
@@ -110,10 +142,10 @@ fn push_zeros(words: &mut Vec<u64>, count: usize) -> Result<(), AllocError>
     Ok(())
 }
 
-/// Whether the bit is set in these words.
-fn is_bit(words: &[u64], place: usize) -> bool
-    requires { place < 64 * length words.now }
-    ensures { result ≡ is_bit words.now place }
+/// Whether the bit is set in the word.
+fn is_set(word: u64, bit: usize) -> bool
+    requires { bit < 64 }
+    ensures { result ≡ (bit_at word bit == 1) }
 {
-    (words[place / 64] >> (place % 64)) & 1 == 1
+    (word >> bit) & 1 == 1
 }

@@ -20,7 +20,7 @@ pub enum Item {
 
 /// What is there at the start, and what follows.
 pub trait Rules {
-    ghost use Rattle.std.specs.Prelude.{◌≡◌, ◌++◌, OnOk};
+    ghost use Rattle.std.specs.Prelude.{◌≡◌, ◌++◌, [], ℕ, false, OnOk};
     ghost use Rattle.mh_flow.specs.Constraints.{ConstraintSystem};
 
     ghost system: { Self → ConstraintSystem };
@@ -36,6 +36,10 @@ pub trait Rules {
     /// Puts behind these what is there at the start.
     fn starts(&self, items: &mut Vec<Item>) -> Result<(), AllocError>
         ensures { OnOk result (items.new.items ≡ items.old.items ++ (system self.now).starts) };
+
+    /// Whether a member of the set may open something.
+    fn opens_at(&self, node: usize) -> bool
+        ensures { result ≡ false → (q : ℕ) → (system self.now).opens (record { node = node; member = q }) ≡ [] };
 
     /// Puts behind these what the member opens.
     fn open(&self, fact: Fact, items: &mut Vec<Item>) -> Result<(), AllocError>

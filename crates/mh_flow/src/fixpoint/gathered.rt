@@ -1,131 +1,82 @@
-//! What is known so far: members, edges, and the members whose consequences are pending.
+//! What is known so far: members and edges.
 //!
-//! Promise: all that is known is derived, each call keeps what was known, what is new is pending, and all that is
-//! known but what is pending has its consequences known.
-ghost use Rattle.std.specs.Prelude.{◌≡◌, ◌<◌, IfOk, OnOk};
+//! Promise: all that is known is derived, each call keeps what was known, what is new is fresh, and all that is known but
+//! what is fresh has its consequences known.
+ghost use Rattle.std.specs.Prelude.{◌≡◌, ◌<◌, ℕ, true, IfOk, OnOk};
 ghost use Rattle.std.specs.List.{Contains};
 ghost use Rattle.mh_flow.specs.declared.fixpoint.constraints.Item.TheVariants as item;
-ghost use Rattle.mh_flow.specs.Rows.{LaidOut};
+ghost use Rattle.mh_flow.specs.Rows.{has};
 ghost use Rattle.mh_flow.specs.Constraints.{Derived, fits, IsFit};
 ghost use Rattle.mh_flow.specs.Gathering.{
   view,
-  nothing,
   IsIn,
+  IsBegun,
   IsSound,
   IsStep,
-  HasGone,
+  IsKnown,
+  AreOpened,
+  AreAllOpened,
   IsSpread,
   IsFollowed,
 };
 
 use crate::fixpoint::bits::Bits;
 use crate::fixpoint::constraints::{Fact, Item, Rules};
-use crate::fixpoint::rows::{
-    count_at, empty_bits, empty_rows, has_bit, has_number, lay_out, mark, number_at, push_at,
-};
+use crate::fixpoint::edges::Edges;
+use crate::fixpoint::members::Members;
+use crate::fixpoint::sets::Sets;
 use std::alloc::{AllocError, Global};
 
 /// What is known so far.
 #[derive(Drop)]
 pub struct Gathered {
-    pub bits: Vec<Bits>,
-    pub members: Vec<Vec<usize>>,
-    pub edges: Vec<Vec<usize>>,
-    pub pending: Vec<Fact>,
+    pub members: Members,
+    pub edges: Edges,
 }
 
 impl Gathered {
-    /// Nothing is known of so many sets.
-    pub fn nothing(alloc: Global, nodes: usize) -> Result<Self, AllocError>
-        ensures { IfOk result (λ gathered. view gathered ≡ nothing nodes) }
+    /// Nothing is known of so many sets, of numbers below this width.
+    pub fn nothing(alloc: Global, nodes: usize, width: usize) -> Result<Self, AllocError>
+        ensures { IfOk result (λ gathered. IsBegun nodes width (view gathered)) }
     {
         Ok(Gathered {
-            bits: empty_bits(alloc, nodes)?,
-            members: empty_rows(alloc, nodes)?,
-            edges: empty_rows(alloc, nodes)?,
-            pending: Vec::new(alloc),
+            members: Members::nothing(alloc, nodes, width)?,
+            edges: Edges::none(alloc, nodes)?,
         })
     }
 
-    /// Lays out the row of bits of a set, if it is not laid out.
-    fn lay<R: Rules>(&mut self, rules: &R, node: usize) -> Result<(), AllocError>
-        requires sound { IsSound (R.system rules.now) (view self.old) }
-        requires node { node < (R.system rules.now).nodes }
-        ensures sound { OnOk result (IsSound (R.system rules.now) (view self.new)) }
-        ensures step { OnOk result (IsStep (R.system rules.now) (view self.old) (view self.new)) }
-        ensures laid { OnOk result (LaidOut (R.system rules.now).width node self.old.bits.items self.new.bits.items) }
-        ensures members { OnOk result (self.new.members ≡ self.old.members) }
-        ensures edges { OnOk result (self.new.edges ≡ self.old.edges) }
-        ensures pending { OnOk result (self.new.pending ≡ self.old.pending) }
-    {
-        lay_out(&mut self.bits, node, rules.width())?;
-        Ok(())
-    }
-
     /// A member that may be known.
-    pub fn add<R: Rules>(&mut self, rules: &R, fact: Fact) -> Result<(), AllocError>
+    fn add<R: Rules>(&mut self, rules: &R, fact: Fact) -> Result<(), AllocError>
         requires sound { IsSound (R.system rules.now) (view self.old) }
-        requires node { fact.node < (R.system rules.now).nodes }
-        requires member { fact.member < (R.system rules.now).width }
+        requires fits { fits (R.system rules.now) (item.Member fact) }
         requires derived { Derived (R.system rules.now) (item.Member fact) }
         ensures sound { OnOk result (IsSound (R.system rules.now) (view self.new)) }
         ensures step { OnOk result (IsStep (R.system rules.now) (view self.old) (view self.new)) }
         ensures put { OnOk result (IsIn (view self.new) (item.Member fact)) }
-        ensures edges { OnOk result (self.new.edges ≡ self.old.edges) }
     {
-        if !has_bit(self.bits.as_slice(), fact.node, fact.member) {
-            self.lay(rules, fact.node)?;
-            push_at(&mut self.members, fact.node, fact.member)?;
-            self.pending.push(fact)?;
-            mark(&mut self.bits, fact.node, fact.member);
-        }
-        Ok(())
-    }
-
-    /// All members of a set that are known into another.
-    fn carry<R: Rules>(&mut self, rules: &R, from: usize, to: usize) -> Result<(), AllocError>
-        requires sound { IsSound (R.system rules.now) (view self.old) }
-        requires from { from < (R.system rules.now).nodes }
-        requires to { to < (R.system rules.now).nodes }
-        requires derived { Derived (R.system rules.now) (item.Edge from to) }
-        ensures sound { OnOk result (IsSound (R.system rules.now) (view self.new)) }
-        ensures step { OnOk result (IsStep (R.system rules.now) (view self.old) (view self.new)) }
-        ensures gone { OnOk result (HasGone (view self.old) (view self.new) from to) }
-    {
-        // Members that come later are pending, and go along the edge when they are followed.
-        let count = count_at(self.members.as_slice(), from);
-        for place in 0..count {
-            let member = number_at(self.members.as_slice(), from, place);
-            self.add(rules, Fact { node: to, member })?;
-        }
+        self.members.add(fact)?;
         Ok(())
     }
 
     /// An edge that may be known; all that is known goes along it at once.
-    pub fn add_edge<R: Rules>(
-        &mut self,
-        rules: &R,
-        from: usize,
-        to: usize,
-    ) -> Result<(), AllocError>
+    fn add_edge<R: Rules>(&mut self, rules: &R, from: usize, to: usize) -> Result<(), AllocError>
         requires sound { IsSound (R.system rules.now) (view self.old) }
-        requires from { from < (R.system rules.now).nodes }
-        requires to { to < (R.system rules.now).nodes }
+        requires fits { fits (R.system rules.now) (item.Edge from to) }
         requires derived { Derived (R.system rules.now) (item.Edge from to) }
         ensures sound { OnOk result (IsSound (R.system rules.now) (view self.new)) }
         ensures step { OnOk result (IsStep (R.system rules.now) (view self.old) (view self.new)) }
         ensures put { OnOk result (IsIn (view self.new) (item.Edge from to)) }
     {
         // Rules may open an edge many times; its members go along it once.
-        if !has_number(self.edges.as_slice(), from, to) {
-            self.carry(rules, from, to)?;
-            push_at(&mut self.edges, from, to)?;
+        let is_new = self.edges.insert(from, to)?;
+        if is_new {
+            self.members.carry(from, to)?;
         }
         Ok(())
     }
 
     /// A member or an edge.
-    pub fn put<R: Rules>(&mut self, rules: &R, item: Item) -> Result<(), AllocError>
+    fn put<R: Rules>(&mut self, rules: &R, item: Item) -> Result<(), AllocError>
         requires sound { IsSound (R.system rules.now) (view self.old) }
         requires fits { fits (R.system rules.now) item }
         requires derived { Derived (R.system rules.now) item }
@@ -155,26 +106,8 @@ impl Gathered {
         Ok(())
     }
 
-    /// A member that is known along all edges of its set.
-    fn spread<R: Rules>(&mut self, rules: &R, fact: Fact) -> Result<(), AllocError>
-        requires fit { IsFit (R.system rules.now) }
-        requires sound { IsSound (R.system rules.now) (view self.old) }
-        requires known { IsIn (view self.old) (item.Member fact) }
-        ensures sound { OnOk result (IsSound (R.system rules.now) (view self.new)) }
-        ensures step { OnOk result (IsStep (R.system rules.now) (view self.old) (view self.new)) }
-        ensures gone { OnOk result (IsSpread (view self.new) fact) }
-    {
-        let count = count_at(self.edges.as_slice(), fact.node);
-        for place in 0..count {
-            let node = number_at(self.edges.as_slice(), fact.node, place);
-            let member = fact.member;
-            self.add(rules, Fact { node, member })?;
-        }
-        Ok(())
-    }
-
-    /// What follows from a member that is known; the list is room for what it opens.
-    pub fn follow<R: Rules>(
+    /// What a member opens that is known; the list is room for it.
+    fn open<R: Rules>(
         &mut self,
         rules: &R,
         fact: Fact,
@@ -185,12 +118,108 @@ impl Gathered {
         requires known { IsIn (view self.old) (item.Member fact) }
         ensures sound { OnOk result (IsSound (R.system rules.now) (view self.new)) }
         ensures step { OnOk result (IsStep (R.system rules.now) (view self.old) (view self.new)) }
-        ensures closed { OnOk result (IsFollowed (R.system rules.now) (view self.old) (view self.new) fact) }
+        ensures opened { OnOk result ((x : _) → Contains ((R.system rules.now).opens fact) x → IsIn (view self.new) x) }
     {
         items.clear();
         rules.open(fact, items)?;
         self.put_each(rules, items.as_slice())?;
-        self.spread(rules, fact)?;
         Ok(())
+    }
+
+    /// What these members open, all of which are known of the set.
+    fn open_each<R: Rules>(
+        &mut self,
+        rules: &R,
+        node: usize,
+        members: &[usize],
+        items: &mut Vec<Item>,
+    ) -> Result<(), AllocError>
+        requires fit { IsFit (R.system rules.now) }
+        requires sound { IsSound (R.system rules.now) (view self.old) }
+        requires known { (q : ℕ) → Contains members.now q → has (view self.old).members.known node q ≡ true }
+        ensures sound { OnOk result (IsSound (R.system rules.now) (view self.new)) }
+        ensures step { OnOk result (IsStep (R.system rules.now) (view self.old) (view self.new)) }
+        ensures opened { OnOk result (AreAllOpened (R.system rules.now) (view self.new) node members.now) }
+    {
+        for member in members {
+            self.open(
+                rules,
+                Fact {
+                    node,
+                    member: *member,
+                },
+                items,
+            )?;
+        }
+        Ok(())
+    }
+
+    /// What the members of a row open, all of which are known of the set.
+    fn open_row<R: Rules>(
+        &mut self,
+        rules: &R,
+        node: usize,
+        row: &Bits,
+        items: &mut Vec<Item>,
+    ) -> Result<(), AllocError>
+        requires fit { IsFit (R.system rules.now) }
+        requires sound { IsSound (R.system rules.now) (view self.old) }
+        requires known { IsKnown (view self.old) node row.now }
+        ensures sound { OnOk result (IsSound (R.system rules.now) (view self.new)) }
+        ensures step { OnOk result (IsStep (R.system rules.now) (view self.old) (view self.new)) }
+        ensures opened { OnOk result (AreOpened (R.system rules.now) (view self.new) node row.now) }
+    {
+        // Most sets have members that open nothing.
+        if !rules.opens_at(node) {
+            return Ok(());
+        }
+        let members = row.places(self.members.alloc)?;
+        self.open_each(rules, node, members.as_slice(), items)?;
+        Ok(())
+    }
+
+    /// The members of a row, all of which are known of the set, along all its edges.
+    fn spread<R: Rules>(&mut self, rules: &R, node: usize, row: &Bits) -> Result<(), AllocError>
+        requires fit { IsFit (R.system rules.now) }
+        requires sound { IsSound (R.system rules.now) (view self.old) }
+        requires node { node < (R.system rules.now).nodes }
+        requires known { IsKnown (view self.old) node row.now }
+        ensures sound { OnOk result (IsSound (R.system rules.now) (view self.new)) }
+        ensures step { OnOk result (IsStep (R.system rules.now) (view self.old) (view self.new)) }
+        ensures gone { OnOk result (IsSpread (view self.new) node row.now) }
+    {
+        for place in 0..self.edges.count(node) {
+            let to = self.edges.end_at(node, place);
+            self.members.pass(row, to)?;
+        }
+        Ok(())
+    }
+
+    /// What follows from the members of a row, all of which are known of the set; the list is room for what they open.
+    pub fn follow<R: Rules>(
+        &mut self,
+        rules: &R,
+        node: usize,
+        row: &Bits,
+        items: &mut Vec<Item>,
+    ) -> Result<(), AllocError>
+        requires fit { IsFit (R.system rules.now) }
+        requires sound { IsSound (R.system rules.now) (view self.old) }
+        requires node { node < (R.system rules.now).nodes }
+        requires known { IsKnown (view self.old) node row.now }
+        ensures sound { OnOk result (IsSound (R.system rules.now) (view self.new)) }
+        ensures step { OnOk result (IsStep (R.system rules.now) (view self.old) (view self.new)) }
+        ensures closed { OnOk result (IsFollowed (R.system rules.now) (view self.old) (view self.new) node row.now) }
+    {
+        self.open_row(rules, node, row, items)?;
+        self.spread(rules, node, row)?;
+        Ok(())
+    }
+
+    /// The members of all sets.
+    pub fn into_sets(self) -> Sets
+        ensures { result ≡ self.members.known.items }
+    {
+        Sets::of(self.members.known)
     }
 }

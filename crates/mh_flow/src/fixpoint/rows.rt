@@ -1,12 +1,13 @@
 //! Rows of bits and of numbers.
 //!
 //! Promise: each call changes one row by one thing; a row of bits is laid out when its first bit is wanted.
-ghost use Rattle.std.specs.Prelude.{◌≡◌, ◌<◌, ◌⊎◌, [], length, vec_len, replicate, nat_eq, IfOk, OnOk, false};
-ghost use Rattle.std.specs.List.{list_any, slice_index};
-ghost use Rattle.mh_flow.specs.Rows.{has, width_at, row, LaidOut, Marked, Pushed, number_rows};
+ghost use Rattle.std.specs.Prelude.{◌≡◌, ◌<◌, ◌≤◌, ◌*◌, ◌^◌, ◌⊎◌, [], length, vec_len, replicate, IfOk, OnOk};
+ghost use Rattle.std.specs.List.{slice_index};
+ghost use Rattle.mh_flow.specs.Rows.{width_at, row, IsWord, LaidOut, WordPut, Emptied, Pushed, number_rows};
 
 use crate::fixpoint::bits::Bits;
 use std::alloc::{AllocError, Global};
+use std::mem::replace;
 
 /// So many rows of bits that are not laid out.
 pub fn empty_bits(alloc: Global, nodes: usize) -> Result<Vec<Bits>, AllocError>
@@ -30,32 +31,49 @@ pub fn empty_rows(alloc: Global, nodes: usize) -> Result<Vec<Vec<usize>>, AllocE
     Ok(rows)
 }
 
-/// Whether the bit is set.
-pub fn has_bit(rows: &[Bits], node: usize, member: usize) -> bool
+/// How many words a row of bits has.
+pub fn words_at(rows: &[Bits], node: usize) -> usize
     requires { node < length rows.now }
-    ensures { result ≡ has rows.now node member }
+    ensures { 64 * result ≡ width_at rows.now node }
 {
-    rows[node].has(member)
+    rows[node].words()
 }
 
-/// Lays out a row, if it is not laid out.
-pub fn lay_out(rows: &mut Vec<Bits>, node: usize, width: usize) -> Result<(), AllocError>
-    requires node { node < vec_len rows.old }
-    requires row { (width_at rows.old.items node ≡ 0) ⊎ (width_at rows.old.items node ≡ width) }
-    ensures { OnOk result (LaidOut width node rows.old.items rows.new.items) }
+/// A word of a row of bits, which is 0 behind the last one.
+pub fn word_at(rows: &[Bits], node: usize, at: usize) -> u64
+    requires { node < length rows.now }
+    ensures { IsWord (row rows.now node) at result }
 {
-    rows[node].lay_out(width)?;
+    rows[node].word(at)
+}
+
+/// Lays out a row of bits, if it is not laid out.
+pub fn lay_out(rows: &mut Vec<Bits>, node: usize, words: usize) -> Result<(), AllocError>
+    requires node { node < vec_len rows.old }
+    requires small { 64 * words ≤ 2 ^ 64 }
+    requires row { (width_at rows.old.items node ≡ 0) ⊎ (width_at rows.old.items node ≡ 64 * words) }
+    ensures { OnOk result (LaidOut (64 * words) node rows.old.items rows.new.items) }
+{
+    rows[node].lay_out(words)?;
     Ok(())
 }
 
-/// Sets a bit that is not set.
-pub fn mark(rows: &mut Vec<Bits>, node: usize, member: usize)
+/// Sets the bits of a word.
+pub fn put_word(rows: &mut Vec<Bits>, node: usize, at: usize, bits: u64)
     requires node { node < vec_len rows.old }
-    requires member { member < width_at rows.old.items node }
-    requires unset { has rows.old.items node member ≡ false }
-    ensures { Marked node member rows.old.items rows.new.items }
+    requires at { 64 * at < width_at rows.old.items node }
+    ensures { WordPut node at bits rows.old.items rows.new.items }
 {
-    rows[node].set(member);
+    rows[node].put(at, bits);
+}
+
+/// Takes a row of bits, and leaves an empty one.
+pub fn take_row(alloc: Global, rows: &mut Vec<Bits>, node: usize) -> Bits
+    requires { node < vec_len rows.old }
+    ensures row { result ≡ row rows.old.items node }
+    ensures left { Emptied node rows.old.items rows.new.items }
+{
+    replace(&mut rows[node], Bits::new(alloc))
 }
 
 /// Puts a number at the end of a row.
@@ -82,18 +100,4 @@ pub fn number_at(rows: &[Vec<usize>], node: usize, place: usize) -> usize
     ensures { result ≡ slice_index (row (number_rows rows.now) node) place }
 {
     rows[node][place]
-}
-
-/// Whether a row has the number.
-pub fn has_number(rows: &[Vec<usize>], node: usize, number: usize) -> bool
-    requires { node < length rows.now }
-    ensures { result ≡ list_any (nat_eq number) (row (number_rows rows.now) node) }
-{
-    is_among(rows[node].as_slice(), number)
-}
-
-fn is_among(numbers: &[usize], number: usize) -> bool
-    ensures { result ≡ list_any (nat_eq number) numbers.now }
-{
-    numbers.iter().any(|other| number == *other)
 }

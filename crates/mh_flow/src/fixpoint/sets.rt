@@ -2,8 +2,8 @@
 //!
 //! Promise: whether a set has a member is one look, and its members are listed from the smallest up. A set that is not
 //! there has none.
-ghost use Rattle.std.specs.Prelude.{◌≡◌, IfOk};
-ghost use Rattle.mh_flow.specs.Rows.{has};
+ghost use Rattle.std.specs.Prelude.{◌≡◌, true, length, IfOk};
+ghost use Rattle.mh_flow.specs.Rows.{has, row};
 ghost use Rattle.mh_flow.specs.Sets.{members_of};
 
 use crate::fixpoint::bits::Bits;
@@ -47,6 +47,31 @@ impl Sets {
             self.rows[node].places(alloc)
         } else {
             Ok(Vec::new(alloc))
+        }
+    }
+
+    /// How many sets there are.
+    pub fn len(&self) -> usize
+        ensures { result ≡ length self.now }
+    {
+        self.rows.len()
+    }
+
+    /// Whether both sets are known to have the same members.
+    pub fn are_alike(&self, first: usize, second: usize) -> bool
+        ensures { result ≡ true → row self.now first ≡ row self.now second }
+    {
+        if self.rows.len() <= first || self.rows.len() <= second {
+            return false;
+        }
+        self.rows[first].is_alike(&self.rows[second])
+    }
+
+    /// A number that is the same for sets with the same members.
+    pub fn mark(&self, node: usize) -> u64 {
+        match self.rows.get(node) {
+            None => 0,
+            Some(row) => row.mark(),
         }
     }
 }

@@ -35,7 +35,7 @@ fn received(argument: &Argument) -> Option<&ObjRef>
     }
 }
 
-impl<'a> NumberedConfig<'a> {
+impl<'a, 's> NumberedConfig<'a, 's> {
     /// What an action does where its target comes to this object.
     pub(crate) fn push_done(
         &self,

@@ -14,7 +14,7 @@ use crate::present::is_holder;
 use mh_model::{Config, Fixed, FixedPart};
 use std::alloc::AllocError;
 
-impl<'a> NumberedConfig<'a> {
+impl<'a, 's> NumberedConfig<'a, 's> {
     /// Where this configuration leads to that one, it is reached, and to a scene the application's objects take along
     /// what they hold.
     pub(crate) fn push_next(

@@ -6,10 +6,14 @@ ghost use Rattle.mh_laws.specs.Flow.{is_reference_in};
 ghost use Rattle.mh_flow.specs.Chart as numbers;
 ghost use Rattle.mh_flow.specs.Opening as spec;
 ghost use Rattle.mh_flow.specs.Sites.{sites_of};
+ghost use Rattle.mh_flow.specs.Walks.{walks};
+ghost use Rattle.mh_model.specs.Configuration.{scene_parts};
+ghost use Rattle.mh_model.specs.Service.{group_parts};
 
 use crate::chart::{Bases, Chart};
 use crate::equipped::Equipped;
 use crate::fixpoint::constraints::{Fact, Item};
+use crate::opening::walks::{Walk, Walks};
 use crate::present::Present;
 use crate::sites::{Site, sites_of};
 use mh_base::ObjRef;
@@ -19,16 +23,17 @@ use std::marker::Model;
 
 /// A configuration, its number, those of its sets, and what is present there.
 #[derive(Drop)]
-pub(crate) struct NumberedConfig<'a> {
+pub(crate) struct NumberedConfig<'a, 's> {
     pub service: &'a Equipped<'a>,
     pub chart: &'a Chart,
+    pub walks: &'a Walks<'s>,
     pub number: usize,
     pub config: &'a Config,
     pub bases: &'a Bases,
     pub present: Present<'a>,
 }
 
-impl<'a> Model for NumberedConfig<'a> {
+impl<'a, 's> Model for NumberedConfig<'a, 's> {
     ghost use Rattle.std.specs.Prelude.{◌≡◌, Some, slice_get};
     ghost use Rattle.mh_model.specs.Configuration.{present as present_there};
     ghost use Rattle.mh_flow.specs.Chart.{IsChart};
@@ -46,7 +51,8 @@ impl<'a> Model for NumberedConfig<'a> {
 
     ghost invariant = { λ p. IsChart p.service.now p.chart.now
         × (slice_get p.chart.now.configs p.number ≡ Some (p.config.now, p.bases.now))
-        × (p.present ≡ present_there p.service.now p.config.now) };
+        × (p.present ≡ present_there p.service.now p.config.now)
+        × (p.walks.now ≡ p.service.now) };
 }
 
 /// A member of a set, where both have numbers.
@@ -77,7 +83,7 @@ pub(crate) fn push_edge(
     Ok(())
 }
 
-impl<'a> NumberedConfig<'a> {
+impl<'a, 's> NumberedConfig<'a, 's> {
     pub(crate) fn node(&self, at: &ObjRef) -> Option<usize>
         ensures { let p = self.now in result ≡ numbers.node_from p.service p.config at.now p.bases }
     {
@@ -96,6 +102,23 @@ impl<'a> NumberedConfig<'a> {
         ensures { let p = self.now in result ≡ is_reference_in (spec.present_in p) at.now }
     {
         self.present.is_reference(at)
+    }
+
+    /// The application's actions that go on through the variable.
+    pub(crate) fn application_walks(&self, variable: &ObjRef) -> &[Walk<'s>]
+        ensures { let p = self.now in result.now ≡ walks variable.now (group_parts p.service p.config.app) }
+    {
+        self.walks.through(&self.config.app, variable)
+    }
+
+    /// Those of the scene.
+    pub(crate) fn scene_walks(&self, variable: &ObjRef) -> &[Walk<'s>]
+        ensures { let p = self.now in result.now ≡ walks variable.now (scene_parts p.service p.config.scene) }
+    {
+        match &self.config.scene {
+            None => self.walks.none(),
+            Some(scene) => self.walks.through(scene, variable),
+        }
     }
 
     /// The sites of all that is active.

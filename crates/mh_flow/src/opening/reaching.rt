@@ -13,6 +13,7 @@ ghost use Rattle.mh_flow.specs.Opening as spec;
 use crate::chart::Chart;
 use crate::fixpoint::constraints::Item;
 use crate::opening::numbered_config::{NumberedConfig, push_member};
+use crate::opening::walks::Walk;
 use crate::present::is_holder;
 use crate::references::{first_items, first_value};
 use crate::sites::Site;
@@ -20,7 +21,7 @@ use mh_base::ObjRef;
 use mh_model::{Act, Fixed, FixedPart, Member, Target};
 use std::alloc::{AllocError, Global};
 
-impl<'a> NumberedConfig<'a> {
+impl<'a, 's> NumberedConfig<'a, 's> {
     /// What a configuration opens that is reached: what its objects hold at first, and what its actions do whose
     /// targets are written.
     pub(crate) fn push_reached(
@@ -96,7 +97,6 @@ impl<'a> NumberedConfig<'a> {
     /// What is there where the object at this place holds this reference.
     pub(crate) fn push_object(
         &self,
-        alloc: Global,
         items: &mut Vec<Item>,
         place: usize,
         at: Option<&ObjRef>,
@@ -106,7 +106,7 @@ impl<'a> NumberedConfig<'a> {
             (slice_get (spec.present_in p) place)) }
     {
         match (at, self.present.at(place)) {
-            (Some(at), Some(part)) => self.push_variable(alloc, items, &part.key, at),
+            (Some(at), Some(part)) => self.push_variable(items, &part.key, at),
             _ => Ok(()),
         }
     }
@@ -114,7 +114,6 @@ impl<'a> NumberedConfig<'a> {
     /// What the actions do that have their targets through the variable, where it holds this reference.
     fn push_variable(
         &self,
-        alloc: Global,
         items: &mut Vec<Item>,
         variable: &ObjRef,
         at: &ObjRef,
@@ -123,8 +122,8 @@ impl<'a> NumberedConfig<'a> {
             ++ spec.by_variable p.service p.chart p.number p.config p.bases variable.now (Some at.now)) }
     {
         if self.is_walked(variable) {
-            let sites = self.sites(alloc)?;
-            self.push_all_through(items, variable, at, sites.as_slice())?;
+            self.push_all_walked(items, at, self.application_walks(variable))?;
+            self.push_all_walked(items, at, self.scene_walks(variable))?;
         }
         Ok(())
     }
@@ -139,53 +138,37 @@ impl<'a> NumberedConfig<'a> {
         self.chart.is_targeted(variable) && self.is_reference(variable)
     }
 
-    fn push_all_through(
+    fn push_all_walked(
         &self,
         items: &mut Vec<Item>,
-        variable: &ObjRef,
         at: &ObjRef,
-        sites: &[Site<'_>],
+        walks: &[Walk<'_>],
     ) -> Result<(), AllocError>
         ensures { let p = self.now in OnOk result (items.new.items ≡ items.old.items
-            ++ flat_map (λ x. spec.does_through p.service p.chart p.number p.config p.bases variable.now at.now
-            x.act x.act.target) sites.now) }
+            ++ flat_map (spec.walked p.service p.chart p.number p.config p.bases at.now) walks.now) }
     {
-        for site in sites {
-            self.push_through(items, variable, site.act, at)?;
+        for walk in walks {
+            self.push_walked(items, at, walk)?;
         }
         Ok(())
     }
 
-    /// What the action does to the object, if it has its target through this variable.
-    fn push_through(
+    /// What the action does to the object, if it is active.
+    fn push_walked(
         &self,
         items: &mut Vec<Item>,
-        variable: &ObjRef,
-        act: &Act,
         at: &ObjRef,
+        walk: &Walk<'_>,
     ) -> Result<(), AllocError>
         ensures { let p = self.now in OnOk result (items.new.items ≡ items.old.items
-            ++ spec.does_through p.service p.chart p.number p.config p.bases variable.now at.now act.now
-            act.now.target) }
+            ++ spec.walked p.service p.chart p.number p.config p.bases at.now walk.now) }
     {
-        match &act.target {
-            Target::Direct(_) => Ok(()),
-            Target::Through(through) => {
-                if is_same(through, variable) {
-                    self.push_done(items, act, at)
-                } else {
-                    Ok(())
-                }
-            }
+        if self.present.is_active(walk.part) {
+            self.push_done(items, walk.act, at)
+        } else {
+            Ok(())
         }
     }
-}
-
-/// Whether both lead to one object.
-fn is_same(first: &ObjRef, second: &ObjRef) -> bool
-    ensures { result ≡ same_ref first.now second.now }
-{
-    first.group == second.group && first.number == second.number
 }
 
 /// The reference is a member of the set, if there is one.

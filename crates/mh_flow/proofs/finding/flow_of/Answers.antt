@@ -1,18 +1,15 @@
 use Rattle.std.proofs.Common.{subst, sym}
 use Rattle.mh_flow.specs.Solved.{IsFlowOf}
-use Rattle.mh_flow.proofs.BridgeLemmas.{fit, rows_are_least}
+use Rattle.mh_flow.proofs.BridgeLemmas.{rows_are_least}
 use Rattle.mh_flow.proofs.finding.flow_of.Goals as goal
-
-pub solve-requires : goal.solve-requires
-solve-requires c = fit c.args.service.now c.in_ok-chart.chart c.in_ok-chart.ensures
 
 pub returns : goal.returns
 returns c =
     let v = c.args.service.now in
     let chart = c.in_ok-chart.ensures in
-    let solved = c.in_ok-sets.ensures in
+    let solved = c.in_ok-found.ensures.least in
     subst (IsFlowOf v) (sym c.new.ensures) (record {
       chart = chart;
       solved = solved;
-      least = rows_are_least v c.in_ok-chart.chart c.in_ok-sets.sets chart solved;
+      least = rows_are_least v c.in_ok-chart.chart c.in_ok-found.found.0 chart solved;
     })

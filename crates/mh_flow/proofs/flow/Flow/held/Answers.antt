@@ -1,4 +1,5 @@
-use Rattle.std.proofs.Common.{List, map, ap, ◌∙◌}
+use Rattle.std.proofs.Common.{List, [], map, ap, ◌∙◌}
+use Rattle.std.specs.Prelude.{unwrap_or}
 use Rattle.mh_base.specs.declared.obj_ref.ObjRef.{ObjRef}
 use Rattle.mh_model.specs.Configuration.{present}
 use Rattle.mh_flow.specs.Solved.{held_by}
@@ -8,7 +9,7 @@ use Rattle.mh_flow.proofs.flow.Flow.held.Goals as goal
 pub returns-clause-each : goal.returns-clause-each
 returns-clause-each c =
     held_put c.args.service.now c.args.self.now c.args.config.now _ _ _ c.parts.result.0.now c.parts.result.1.now
-    (ap (map (λ l. l.items)) c.in_ok-lists.ensures.items)
+    (ap (map (λ l. unwrap_or l [])) c.in_ok-lists.ensures.items)
     c.in_ok-push_held.ensures
     c.in_ok-push_held-2.ensures
     (c.parts.ensures ∙ c.present-present.ensures)

@@ -1,45 +1,39 @@
-use Rattle.std.proofs.Common.{arith, ◌≡◌, ◌≤◌, ◌<◌, ◌++◌, ◌+◌, ◌*◌, ◌/◌, ℕ, length, drop, ap, ◌∙◌, sym}
+use Rattle.std.proofs.Common.{arith, ◌≤◌, ◌<◌, ◌++◌, ◌+◌, ◌*◌, ℕ, length, drop, ap, ◌∙◌, sym, subst}
 use Rattle.std.specs.Prelude.{Vec}
 use Rattle.std.specs.declared.alloc.Global.{Global}
-use Rattle.mh_flow.specs.Rows.{places_from}
-use Rattle.mh_flow.proofs.BitLemmas.{lent_length, places_end, word_passed}
+use Rattle.mh_flow.specs.Rows.{places_from, IsWord}
 use Rattle.mh_flow.proofs.RowLemmas.{found_number}
-use Rattle.mh_flow.proofs.fixpoint.bits.Bits.places.Goals.{then-index-ne0+in_ok-put_between, else-index-ne0}
+use Rattle.mh_flow.proofs.BitLemmas.{lent_length, lent_word, places_end, next_word, word_passed}
+use Rattle.mh_flow.proofs.fixpoint.bits.Bits.places.Goals.{then-index-ne0+in_ok-put_places, else-index-ne0}
 use Rattle.mh_flow.proofs.fixpoint.bits.Bits.places.Goals as goal
 
-pub put_between-requires-clause-within : goal.put_between-requires-clause-within
-put_between-requires-clause-within c =
-    let wide = lent_length c.args.self.now c.self.inside.words.items c.self.inside.width c.self.view_is in
-    omega (arith, wide, c.loop-word-test.true)
+pub put_places-requires : goal.put_places-requires
+put_places-requires c =
+    let wide = lent_length c.args.self.now c.self.inside.words.items (64 * length c.self.inside.words.items) c.self.view_is in
+    let less = subst (λ (n : ℕ). c.loop-at.at < n) (c.len-at-end.ensures ∙ c.self.inside.words.ok.0) c.loop-at-test.true in
+    omega (arith, less, wide)
 
-pub loop-word-preserved : goal.loop-word-preserved
-loop-word-preserved c =
-    let wide = lent_length c.args.self.now c.self.inside.words.items c.self.inside.width c.self.view_is in
-    let next : (c.loop-word.word + 1) * 64 ≡ c.loop-word.word * 64 + 64 = omega arith in
-    let within : c.loop-word.word * 64 + 64 ≤ length c.args.self.now = omega (arith, wide, c.loop-word-test.true) in
-    let there : c.loop-word.word < length c.self.inside.words.items = omega (arith, c.self.invariant, c.loop-word-test.true) in
+pub loop-at-preserved : goal.loop-at-preserved
+loop-at-preserved c =
+    let wide = lent_length c.args.self.now c.self.inside.words.items (64 * length c.self.inside.words.items) c.self.view_is in
+    let there = subst (λ (n : ℕ). c.loop-at.at < n) (c.len-at-end.ensures ∙ c.self.inside.words.ok.0) c.loop-at-test.true in
+    let within : 64 * c.loop-at.at + 64 ≤ length c.args.self.now = omega (arith, there, wide) in
+    let word = lent_word c.args.self.now c.self.inside.words.items c.loop-at.at c.index.result.now c.self.view_is there
+    (c.index.ensures ∙ found_number c.self.inside.words.items c.loop-at.at c.index.result.now there) in
     elim c.if-index-ne0.branch [
-      | then-index-ne0+in_ok-put_between w ↦
-          ap (λ (v : Vec ℕ Global). v.items ++ places_from ((c.loop-word.word + 1) * 64) (drop ((c.loop-word.word + 1) * 64) c.args.self.now)) w.found-is
-          ∙ ap (λ (n : ℕ). w.put_between.new.found.items ++ places_from n (drop n c.args.self.now)) next
-          ∙ w.in_ok-put_between.ensures ∙ c.loop-word.invariant
+      | then-index-ne0+in_ok-put_places w ↦
+          ap (λ (v : Vec ℕ Global). v.items ++ places_from (64 * (c.loop-at.at + 1)) (drop (64 * (c.loop-at.at + 1)) c.args.self.now)) w.found-is
+          ∙ next_word c.args.self.now c.loop-at.at w.put_places.new.found.items
+          ∙ w.in_ok-put_places.ensures ∙ c.loop-at.invariant
       | else-index-ne0 w ↦
-          ap (λ (v : Vec ℕ Global). v.items ++ places_from ((c.loop-word.word + 1) * 64) (drop ((c.loop-word.word + 1) * 64) c.args.self.now)) w.found-is
-          ∙ ap (λ (n : ℕ). c.loop-word.found.items ++ places_from n (drop n c.args.self.now)) next
-          ∙ word_passed c.args.self.now c.self.inside.words.items c.self.inside.width c.loop-word.word c.loop-word.found.items c.self.view_is within
-          (sym (c.index.ensures ∙ found_number c.self.inside.words.items c.loop-word.word c.index.result.now there) ∙ w.if-index-ne0.false)
-          ∙ c.loop-word.invariant
+          ap (λ (v : Vec ℕ Global). v.items ++ places_from (64 * (c.loop-at.at + 1)) (drop (64 * (c.loop-at.at + 1)) c.args.self.now)) w.found-is
+          ∙ next_word c.args.self.now c.loop-at.at c.loop-at.found.items
+          ∙ word_passed c.args.self.now c.loop-at.at c.loop-at.found.items within (subst (λ (n : ℕ). IsWord c.args.self.now c.loop-at.at n) w.if-index-ne0.false word)
+          ∙ c.loop-at.invariant
     ]
-
-pub put_between-requires-2-clause-within : goal.put_between-requires-2-clause-within
-put_between-requires-2-clause-within c =
-    let wide = lent_length c.args.self.now c.self.inside.words.items c.self.inside.width c.self.view_is in
-    omega (arith, wide)
 
 pub returns : goal.returns
 returns c =
-    let wide = lent_length c.args.self.now c.self.inside.words.items c.self.inside.width c.self.view_is in
-    let last : c.self.inside.width / 64 * 64 ≡ c.loop-word.word * 64 = omega (arith, c.loop-word-test.false, c.loop-word.auto.word-end) in
-    sym (places_end c.args.self.now c.self.inside.width c.put_between-2.new.found.items (omega (arith, wide)))
-    ∙ c.in_ok-put_between-2.ensures
-    ∙ ap (λ (n : ℕ). c.loop-word.found.items ++ places_from n (drop n c.args.self.now)) last ∙ c.loop-word.invariant
+    let wide = lent_length c.args.self.now c.self.inside.words.items (64 * length c.self.inside.words.items) c.self.view_is in
+    let past = subst (λ (n : ℕ). n ≤ c.loop-at.at) (c.len-at-end.ensures ∙ c.self.inside.words.ok.0) c.loop-at-test.false in
+    sym (places_end c.args.self.now (64 * c.loop-at.at) c.loop-at.found.items (omega (arith, past, wide))) ∙ c.loop-at.invariant

@@ -1,17 +1,21 @@
-use Rattle.std.proofs.Common.{sym, subst, List}
-use Rattle.mh_flow.specs.declared.fixpoint.constraints.Fact.{Fact}
-use Rattle.mh_flow.specs.Rows.{number_rows}
-use Rattle.mh_flow.specs.Gathering.{view, IsSound, IsStep}
-use Rattle.mh_flow.proofs.StepLemmas.{added_sound, added_step, then_step}
+use Rattle.std.proofs.Common.{◌<◌, ℕ, sym, subst}
+use Rattle.mh_flow.specs.Membership.{rows_of}
+use Rattle.mh_flow.specs.Gathering.{view}
+use Rattle.mh_flow.proofs.StepLemmas.{members_step, members_sound, one_comes, one_there, room_for}
 use Rattle.mh_flow.proofs.fixpoint.gathered.Gathered.add.Goals as goal
 
-pub returns-in_ok-push-clause-sound : goal.returns-in_ok-push-clause-sound
-returns-in_ok-push-clause-sound g c =
-    subst (λ (ps : List Fact). IsSound (g.R.Rules.system c.args.rules.now) (record { bits = c.mark.new.rows.items; members = number_rows c.push_at.new.rows.items; edges = number_rows c.lay.new.self.edges.items; pending = ps })) (sym c.in_ok-push.ensures.items)
-    (added_sound (g.R.Rules.system c.args.rules.now) (view c.lay.new.self) c.args.fact c.mark.new.rows.items (number_rows c.push_at.new.rows.items) c.mark.ensures c.in_ok-push_at.ensures c.in_ok-lay.ensures.sound c.requires.derived)
+pub add-requires-clause-node : goal.add-requires-clause-node
+add-requires-clause-node g c = subst (λ (n : ℕ). c.args.fact.node < n) (sym c.requires.sound.height) c.requires.fits.0
 
-pub returns-in_ok-push-clause-step : goal.returns-in_ok-push-clause-step
-returns-in_ok-push-clause-step g c =
-    then_step (g.R.Rules.system c.args.rules.now) (view c.args.self.now) (view c.lay.new.self) _ c.in_ok-lay.ensures.step
-    (subst (λ (ps : List Fact). IsStep (g.R.Rules.system c.args.rules.now) (view c.lay.new.self) (record { bits = c.mark.new.rows.items; members = number_rows c.push_at.new.rows.items; edges = number_rows c.lay.new.self.edges.items; pending = ps })) (sym c.in_ok-push.ensures.items)
-    (added_step (g.R.Rules.system c.args.rules.now) (view c.lay.new.self) c.args.fact c.mark.new.rows.items (number_rows c.push_at.new.rows.items) c.in_ok-lay.ensures.laid.laid c.mark.ensures c.in_ok-push_at.ensures))
+pub add-requires-clause-member : goal.add-requires-clause-member
+add-requires-clause-member g c = room_for c.args.fact.member (g.R.Rules.system c.args.rules.now).width c.args.self.now.members.words c.requires.fits.1 c.requires.sound.words
+
+pub returns-clause-sound : goal.returns-clause-sound
+returns-clause-sound g c =
+    members_sound (g.R.Rules.system c.args.rules.now) (rows_of c.add.new.self) (view c.args.self.now) _ c.requires.sound c.in_ok-add.ensures.members c.in_ok-add.ensures.put (one_comes (g.R.Rules.system c.args.rules.now) c.args.fact c.requires.derived)
+
+pub returns-clause-step : goal.returns-clause-step
+returns-clause-step g c = members_step (g.R.Rules.system c.args.rules.now) (view c.args.self.now) (record (view c.args.self.now) { members = rows_of c.add.new.self }) _ c.in_ok-add.ensures.put Rattle.std.specs.Prelude.refl
+
+pub returns-clause-put : goal.returns-clause-put
+returns-clause-put g c = one_there (rows_of c.args.self.now.members) (rows_of c.add.new.self) c.args.fact c.in_ok-add.ensures.put

@@ -1,10 +1,9 @@
-use Rattle.std.proofs.Common.{arith, ◌≡◌, ℕ, ap, ◌∙◌, sym, subst, length, List, take}
+use Rattle.std.proofs.Common.{arith, ◌≡◌, ◌∙◌, ℕ, List, length, take, ap, sym, subst}
 use Rattle.std.specs.List.{Contains}
 use Rattle.std.proofs.lemmas.List.{take_all}
 use Rattle.mh_flow.specs.declared.fixpoint.constraints.Item.{Item}
 use Rattle.mh_flow.specs.Gathering.{view}
-use Rattle.mh_flow.proofs.StepLemmas.{same_step}
-use Rattle.mh_flow.proofs.PutLemmas.{put_next}
+use Rattle.mh_flow.proofs.StepLemmas.{same_step, put_next}
 use Rattle.mh_flow.proofs.fixpoint.gathered.Gathered.put_each.Goals as goal
 
 pub loop-item-init : goal.loop-item-init
