@@ -24,6 +24,9 @@ grows_same ts = record { stays = λ k x e. e; places = λ k has. has }
 pub grows_equal : (old new : Places) → new ≡ old → Grows old new
 grows_equal old new is = subst (λ (ts : Places). Grows old ts) (sym is) (grows_same old)
 
+pub layers_equal : (price : NumberedNode → Price NumberedNode) (kept : NumberedNode → Type 0) (old new : Places) → new ≡ old → AreLayers price kept old → AreLayers price kept new
+layers_equal price kept old new is layers = subst (AreLayers price kept) (sym is) layers
+
 pub grows_on : (a b c : Places) → Grows a b → Grows b c → Grows a c
 grows_on a b c g h = record { stays = λ k x e. h.stays k x (g.stays k x e); places = λ k has. h.places k (g.places k has) }
 

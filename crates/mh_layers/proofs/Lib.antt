@@ -45,7 +45,8 @@ pub mod CheapFlowLemmas
 pub mod CheapCostLemmas
 pub mod CheapTimerLemmas
 pub mod CheapestLemmas
-pub mod OrderLemmas
+pub mod PartLemmas
+pub mod LeadLemmas
 pub mod FocusLemmas
 pub mod TrailLemmas
 pub mod AppliedLemmas

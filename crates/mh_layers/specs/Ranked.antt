@@ -1,27 +1,29 @@
--- Places for the nodes of a graph that tell of nodes on no cycle: what leads to a node with a place has one before it.
-use Rattle.std.specs.Prelude.{◌<◌, ◌||◌, ℕ, Bool, List, get_or, length, nat_le, nat_lt}
+-- Parts of a graph, in an order of the arrows, and nodes that are alone: on no cycle.
+use Rattle.std.specs.Prelude.{◌≡◌, ◌<◌, ◌≤◌, ◌||◌, ◌&&◌, not, ℕ, Bool, true, false, List, get_or, length, nat_le, nat_lt}
 use Rattle.std.specs.List.{Contains, list_all, range_with_len}
 use Rattle.mh_paths.specs.declared.graph.Arrow.{Arrow}
 use Rattle.mh_paths.specs.declared.graph.Graph.{Graph}
 use Rattle.mh_paths.specs.Chains.{arrows_of}
 
--- the place of a node; one that has none stands behind all
-abbrev pub place_in : List ℕ → ℕ → ℕ → ℕ
-place_in places behind n = get_or places n behind
+-- the part of a node; what has none stands behind all
+abbrev pub part_in : List ℕ → ℕ → ℕ
+part_in parts n = get_or parts n 18446744073709551615
 
--- what leads to a node with a place has a place before it
-pub record IsOrder (g : Graph) (places : List ℕ) (behind : ℕ) : Type 0 where
-  pub each :
-      (n : ℕ) (a : Arrow) → Contains (arrows_of g n) a → place_in places behind a.to < behind →
-      place_in places behind n < place_in places behind a.to
+abbrev pub is_alone : List Bool → ℕ → Bool
+is_alone alone n = get_or alone n false
+
+-- no arrow leads to an earlier part, and what leads to a node that is alone comes from an earlier one
+pub record AreParts (g : Graph) (parts : List ℕ) (lone : List Bool) : Type 0 where
+  pub later : (n : ℕ) (a : Arrow) → Contains (arrows_of g n) a → part_in parts n ≤ part_in parts a.to
+  pub alone : (n : ℕ) (a : Arrow) → Contains (arrows_of g n) a → is_alone lone a.to ≡ true → part_in parts n < part_in parts a.to
 
 -- the same as a test: of one arrow, of those that leave a node, of all
 
-abbrev pub leads_ahead : List ℕ → ℕ → ℕ → Arrow → Bool
-leads_ahead places behind n a = nat_le behind (place_in places behind a.to) || nat_lt (place_in places behind n) (place_in places behind a.to)
+abbrev pub leads_ahead : List ℕ → List Bool → ℕ → Arrow → Bool
+leads_ahead parts alone n a = nat_lt (part_in parts n) (part_in parts a.to) || (nat_le (part_in parts n) (part_in parts a.to) && not (is_alone alone a.to))
 
-abbrev pub all_ahead : List ℕ → ℕ → Graph → ℕ → Bool
-all_ahead places behind g n = list_all (leads_ahead places behind n) (arrows_of g n)
+abbrev pub all_ahead : List ℕ → List Bool → Graph → ℕ → Bool
+all_ahead parts alone g n = list_all (leads_ahead parts alone n) (arrows_of g n)
 
-abbrev pub are_ahead : List ℕ → ℕ → Graph → Bool
-are_ahead places behind g = list_all (all_ahead places behind g) (range_with_len 0 (length g.nodes.items))
+abbrev pub are_ahead : List ℕ → List Bool → Graph → Bool
+are_ahead parts alone g = list_all (all_ahead parts alone g) (range_with_len 0 (length g.nodes.items))

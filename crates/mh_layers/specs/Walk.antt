@@ -1,5 +1,5 @@
 -- The first cycle, found by its number: the node graph of the nodes that are not laid, and the first of these that is on a cycle.
-use Rattle.std.specs.Prelude.{◌≡◌, not, true, List, [], ◌∷◌, ◌++◌, filter, Option, Some, None}
+use Rattle.std.specs.Prelude.{◌≡◌, ◌⊎◌, not, true, List, [], ◌∷◌, ◌++◌, filter, Option, Some, None}
 use Rattle.std.specs.List.{flat_map}
 use Rattle.std.specs.Ordering.{is_lt}
 use Rattle.mh_paths.specs.declared.graph.Arrow.{Arrow}
@@ -44,6 +44,10 @@ AreBest r ks g seen (Some b) = IsBest r ks g seen b
 -- with one more node that was seen
 pub record IsTried (r : Reading) (ks : List NumberedNode) (g : Graph) (k : NumberedNode) (old new : Option Best) : Type 0 where
   pub best : (seen : List NumberedNode) → AreBest r ks g seen old → AreBest r ks g (seen ++ k ∷ []) new
+
+-- the node, or the lead
+abbrev pub IsOneOf : Option NumberedNode → NumberedNode → NumberedNode → Type 0
+IsOneOf lead k j = (k ≡ j) ⊎ (lead ≡ Some j)
 
 -- the causes along a trail, and in front that of the effect at which it begins and ends
 abbrev pub causes_along : Reading → List NumberedNode → List Arrow → List Cause

@@ -3,9 +3,11 @@
 //! Promise: of all active effects that put themselves to work, by way of others, the first is told by its place and
 //! configuration, with the first of the shortest ways; and none only where no effect does.
 
+mod connected;
 pub(crate) mod effect_site;
+pub(crate) mod lead;
 pub(crate) mod node_graph;
-pub(crate) mod order;
+pub(crate) mod parts;
 pub(crate) mod successors;
 pub(crate) mod trail;
 
@@ -20,15 +22,16 @@ ghost use Rattle.mh_layers.specs.Cycle.{NoCycles, by_effect_site};
 ghost use Rattle.mh_layers.specs.Layered.{active_nodes};
 ghost use Rattle.mh_layers.specs.Layering.{AreLayers};
 ghost use Rattle.mh_layers.specs.Named.{IsEffectKept};
-ghost use Rattle.mh_layers.specs.Ranked.{IsOrder};
+ghost use Rattle.mh_layers.specs.Ranked.{AreParts};
 ghost use Rattle.mh_layers.specs.Reading.{IsReading, flow_read, kept, price};
 ghost use Rattle.mh_layers.specs.Walk.{AreBest, IsTried, unlaid};
 
 use crate::arrows::arrow::Arrow;
 use crate::cause::Cause;
 use crate::cycle::effect_site::{by_effect_site, cause_of};
+use crate::cycle::lead::{lead_of, led};
 use crate::cycle::node_graph::{NodeGraph, node_graph_of, node_index};
-use crate::cycle::order::Order;
+use crate::cycle::parts::Parts;
 use crate::cycle::trail::arrows_along;
 use crate::laying::roots::push_effects;
 use crate::laying::{LayersError, Laying};
@@ -62,19 +65,19 @@ fn set(best: &mut Option<Best>, node: NumberedNode, cause: Cause, trail: Vec<mh_
     *best = Some(Best { node, cause, trail });
 }
 
-/// The first cycle through the node with this number, if there is one. No search is made where it lies before all cycles.
-#[tactic(auto, using(crate::proofs::OrderLemmas::passed_by))]
+/// The first cycle through the node with this number, if there is one. No search is made where it is on none.
+#[tactic(auto, using(crate::proofs::PartLemmas::passed_by))]
 fn cycle_through(
     alloc: Global,
     node_graph: &NodeGraph,
-    order: &Order,
+    parts: &Parts,
     index: usize,
 ) -> Result<Option<Vec<mh_paths::Arrow>>, AllocError>
-    requires { IsOrder node_graph.now.graph order.now.places.items order.now.behind }
+    requires { AreParts node_graph.now.graph parts.now.parts.items parts.now.alone.items }
     ensures some { IfOk result (λ found. IfSome found (λ p. IsFirstCycle node_graph.now.graph index p.items)) }
     ensures none { IfOk result (λ found. IfNone found (NoCycle node_graph.now.graph index)) }
 {
-    if order.is_passed(index) {
+    if parts.is_passed(index) {
         return Ok(None);
     }
     mh_paths::first_cycle(alloc, &node_graph.graph, index)
@@ -86,11 +89,11 @@ fn try_node(
     alloc: Global,
     numbered_service: &NumberedService<'_>,
     node_graph: &NodeGraph,
-    order: &Order,
+    parts: &Parts,
     best: &mut Option<Best>,
     node: &NumberedNode,
 ) -> Result<(), AllocError>
-    requires order { IsOrder node_graph.now.graph order.now.places.items order.now.behind }
+    requires parts { AreParts node_graph.now.graph parts.now.parts.items parts.now.alone.items }
     requires effect { IsEffectKept numbered_service.now node.now }
     ensures { OnOk result (IsTried numbered_service.now node_graph.now.nodes.keys node_graph.now.graph node.now best.old best.new) }
 {
@@ -99,7 +102,7 @@ fn try_node(
         return Ok(());
     }
     let index = node_index(&node_graph.nodes, node);
-    match cycle_through(alloc, node_graph, order, index)? {
+    match cycle_through(alloc, node_graph, parts, index)? {
         None => Ok(()),
         Some(trail) => {
             set(best, *node, cause, trail);
@@ -109,6 +112,25 @@ fn try_node(
 }
 
 /// The first of these that is on a cycle.
+fn first_along(
+    alloc: Global,
+    numbered_service: &NumberedService<'_>,
+    node_graph: &NodeGraph,
+    parts: &Parts,
+    nodes: &[NumberedNode],
+) -> Result<Option<Best>, AllocError>
+    requires parts { AreParts node_graph.now.graph parts.now.parts.items parts.now.alone.items }
+    requires effects { Each (IsEffectKept numbered_service.now) nodes.now }
+    ensures { IfOk result (λ best. AreBest numbered_service.now node_graph.now.nodes.keys node_graph.now.graph nodes.now best) }
+{
+    let mut best = None;
+    for node in nodes {
+        try_node(alloc, numbered_service, node_graph, parts, &mut best, node)?;
+    }
+    Ok(best)
+}
+
+/// The first of these that is on a cycle. The lead is tried before all others, so that one search is made.
 fn first_of(
     alloc: Global,
     numbered_service: &NumberedService<'_>,
@@ -118,11 +140,10 @@ fn first_of(
     requires { Each (IsEffectKept numbered_service.now) nodes.now }
     ensures { IfOk result (λ best. AreBest numbered_service.now node_graph.now.nodes.keys node_graph.now.graph nodes.now best) }
 {
-    let order = Order::of(alloc, &node_graph.graph)?;
-    let mut best = None;
-    for node in nodes {
-        try_node(alloc, numbered_service, node_graph, &order, &mut best, node)?;
-    }
+    let parts = Parts::of(alloc, &node_graph.graph)?;
+    let lead = lead_of(numbered_service, node_graph, &parts, nodes)?;
+    let all = led(alloc, lead, nodes)?;
+    let best = first_along(alloc, numbered_service, node_graph, &parts, all.as_slice())?;
     Ok(best)
 }
 

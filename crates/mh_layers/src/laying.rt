@@ -4,6 +4,7 @@ pub mod costs;
 pub(crate) mod diving;
 pub(crate) mod roots;
 pub mod sums;
+pub(crate) mod wants;
 
 ghost use Rattle.std.specs.Prelude.{◌≡◌, [], None, true, false, length, OnOk, OnErr, IfOk, IsErrOf};
 ghost use Rattle.std.specs.List.{list_all};
@@ -98,6 +99,14 @@ impl Laying {
         ensures { result.now ≡ self.now }
     {
         &self.costs
+    }
+
+    /// Makes room for more that is asked for, if there was none left.
+    pub(crate) fn widen(&mut self) -> Result<(), AllocError>
+        ensures { self.new ≡ self.old }
+    {
+        let _ = self.costs.len();
+        self.costs.widen(self.alloc)
     }
 
     /// Lays a node with this cost.

@@ -6,10 +6,10 @@ ghost use Rattle.mh_layers.specs.Layering.{cost_in, node_at, laid_in, place_in};
 ghost use Rattle.mh_layers.specs.NumberedNodes.{same_node};
 
 use crate::laying::sums::CostOrMissing;
+use crate::laying::wants::Wants;
 use crate::numbered_node::NumberedNode;
 use indexmap::IndexMap;
 use std::alloc::{AllocError, Global};
-use std::cell::Cell;
 use std::marker::Model;
 
 /// What a node costs, and its rank: those that it counts have lower ones.
@@ -24,8 +24,7 @@ pub struct Laid {
 #[derive(Drop)]
 pub struct Costs {
     places: IndexMap<NumberedNode, Option<Laid>>,
-    wants: Vec<Cell<NumberedNode>>,
-    wanted: Cell<usize>,
+    wants: Wants,
 }
 
 impl Model for Costs {
@@ -38,27 +37,15 @@ impl Model for Costs {
     ghost view = { λ c. c.places.entries };
 }
 
-/// How many are noted at most that were asked for.
-const NOTED: usize = 1_024;
-
-fn no_wants(alloc: Global) -> Result<Vec<Cell<NumberedNode>>, AllocError> {
-    let mut wants = Vec::new(alloc);
-    for _ in 0..NOTED {
-        wants.push(Cell::new(NumberedNode::Enter(0)))?;
-    }
-    Ok(wants)
-}
-
 impl Costs {
     /// Nothing has a place.
     pub fn new(alloc: Global) -> Result<Costs, AllocError>
         ensures { IfOk result (λ costs. costs ≡ []) }
     {
-        let wants = no_wants(alloc)?;
+        let wants = Wants::new(alloc)?;
         Ok(Costs {
             places: IndexMap::new(alloc),
             wants,
-            wanted: Cell::new(0),
         })
     }
 
@@ -80,7 +67,7 @@ impl Costs {
             Some(Some(laid)) => Ok(laid.cost),
             Some(None) => Err(*node),
             None => {
-                self.want(*node);
+                self.wants.note(*node);
                 Err(*node)
             }
         }
@@ -123,30 +110,19 @@ impl Costs {
         Ok(())
     }
 
-    fn want(&self, node: NumberedNode) {
-        let place = self.wanted.get();
-        if place < self.wants.len() {
-            self.wants[place].set(node);
-            self.wanted.set(place + 1);
+    /// What was asked for and has no place.
+    pub(crate) fn wants(&self) -> &Wants {
+        &self.wants
+    }
+
+    /// Makes room for more that is asked for, if there was none left: so that a node which counts many is looked at anew a
+    /// few times only.
+    pub fn widen(&mut self, alloc: Global) -> Result<(), AllocError>
+        ensures { self.new ≡ self.old }
+    {
+        if self.wants.is_full() {
+            self.wants.widen(alloc)?;
         }
-    }
-
-    /// How many were asked for.
-    pub fn wanted(&self) -> usize {
-        self.wanted.get()
-    }
-
-    /// One that was asked for.
-    pub fn want_at(&self, place: usize) -> Option<NumberedNode> {
-        if place < self.wants.len() {
-            Some(self.wants[place].get())
-        } else {
-            None
-        }
-    }
-
-    /// Forgets what was asked for.
-    pub fn forget(&self) {
-        self.wanted.set(0);
+        Ok(())
     }
 }

@@ -66,23 +66,24 @@ impl Laying {
         if self.costs().laid(&node).is_some() {
             return Ok(());
         }
-        self.costs().forget();
+        self.costs().wants().forget();
         if self.settle(prices, &node)?.is_some() {
             self.place(node)?;
             self.open(path, node)?;
+            self.widen()?;
         }
         Ok(())
     }
 
     /// What was asked for and has no place goes on the path, in front of the node that waits for it.
     fn open(&self, path: &mut Vec<Step>, node: NumberedNode) -> Result<(), AllocError> {
-        let wanted = self.costs().wanted();
-        if wanted == 0 {
+        let wants = self.costs().wants();
+        if wants.len() == 0 {
             return Ok(());
         }
         path.push(Step { node, again: true })?;
-        for place in 0..wanted {
-            if let Some(node) = self.costs().want_at(place) {
+        for place in 0..wants.len() {
+            if let Some(node) = wants.at(place) {
                 path.push(Step { node, again: false })?;
             }
         }

@@ -11,6 +11,7 @@ ghost use Rattle.mh_laws.specs.Safe.{exchanged};
 ghost use Rattle.mh_laws.specs.Ways.{Sure};
 ghost use Rattle.mh_flow.specs.Sites.{sites_of as sites_of_lem};
 ghost use Rattle.mh_layers.specs.CostNode.{Change, Enter, Leave};
+ghost use Rattle.mh_layers.specs.declared.numbered_node.NumberedNode.TheVariants as node;
 ghost use Rattle.mh_layers.specs.CostNodes.{hearing};
 ghost use Rattle.mh_layers.specs.Reading.{IsReading, config_number, effect_node as effect_number, fired_node as fired_number, flow_read, hears_among, hears_told, lists_read, number as number_of, same_setting, settings, context_at};
 
@@ -235,6 +236,13 @@ impl<'a> At<'a> {
             self.numbered_service.object_number(at),
             index,
         )
+    }
+
+    /// The same, where the object has this number.
+    pub fn numbered_effect(&self, object: usize, index: usize) -> NumberedNode
+        ensures { result ≡ node.Effect (config_number self.now.reading self.now.config) object index }
+    {
+        NumberedNode::Effect(self.number(), object, index)
     }
 
     /// What an event sets going that is dealt with at once.

@@ -9,7 +9,7 @@ ghost use Rattle.mh_laws.specs.Price.{Nothing, One, most_price};
 ghost use Rattle.mh_prices.specs.Meter.{Adds, onto, raise};
 ghost use Rattle.mh_layers.specs.CostNodes.{effect, group_effect as group_effect_lem};
 ghost use Rattle.mh_layers.specs.Numbered.{through};
-ghost use Rattle.mh_layers.specs.Reading.{dealt_by, fired_by, number as number_of, there_by};
+ghost use Rattle.mh_layers.specs.Reading.{dealt_by, fired_by, number as number_of, object_number, there_by};
 
 use crate::numbered::at::At;
 use crate::numbered_node::{Hears, NumberedNode};
@@ -36,6 +36,22 @@ impl<'a, M: Meter> Walk<'a, M> {
     {
         self.meter
             .node(self.here.effect_node(&part.key, index), sum)
+    }
+
+    /// The same, where the object has this number.
+    fn effect_numbered(
+        &self,
+        part: &Fixed,
+        object: usize,
+        index: usize,
+        sum: M::Sum,
+    ) -> Result<M::Sum, AllocError>
+        requires { object ≡ object_number self.now.here.now.reading part.now.key }
+        ensures { let s = self.now.here.now in let m = through (number_of s.reading) (M.meter self.now.meter.now) in
+            Adds M.seen m (effect s.config index part.now) sum result }
+    {
+        self.meter
+            .node(self.here.numbered_effect(object, index), sum)
     }
 
     /// An effect of a group of the configuration.
@@ -123,17 +139,19 @@ impl<'a, M: Meter> Walk<'a, M> {
         }
     }
 
-    /// So many effects of the object from this number on: the largest of these.
+    /// So many effects of the object, which has this number, from this effect on: the largest of these.
     #[tactic(auto, using(crate::proofs::OntoLemmas::next_number))]
     fn effects_from(
         &self,
         part: &Fixed,
+        object: usize,
         first: usize,
         count: usize,
         mark: M::Mark,
         sum: M::Sum,
     ) -> Result<(M::Mark, M::Sum), AllocError>
-        requires { first + count < 2 ^ 64 }
+        requires count { first + count < 2 ^ 64 }
+        requires object { object ≡ object_number self.now.here.now.reading part.now.key }
         ensures { let s = self.now.here.now in let m = through (number_of s.reading) (M.meter self.now.meter.now) in
             let p = most_price (λ n. effect s.config n part.now) (range_with_len first count) in
             IfOk result (λ x. (M.marked x.0, M.seen x.1) ≡ raise m p (M.marked mark, M.seen sum)) }
@@ -143,7 +161,7 @@ impl<'a, M: Meter> Walk<'a, M> {
         let mut number = first;
         let mut left = count;
         while left > 0 {
-            sum = self.effect_of(part, number, sum)?;
+            sum = self.effect_numbered(part, object, number, sum)?;
             (mark, sum) = self.meter.next(mark, sum);
             number += 1;
             left -= 1;
@@ -162,7 +180,8 @@ impl<'a, M: Meter> Walk<'a, M> {
             return Ok(sum);
         }
         let (mark, sum) = self.meter.aside(sum);
-        let (mark, sum) = self.effects_from(part, 3, count, mark, sum)?;
+        let object = self.here.numbered_service().object_number(&part.key);
+        let (mark, sum) = self.effects_from(part, object, 3, count, mark, sum)?;
         Ok(self.meter.close(mark, sum))
     }
 }
