@@ -1,4 +1,5 @@
 pub mod LeastLemmas
+pub mod SampleLemmas
 pub mod MannedLemmas
 pub mod OrderLemmas
 pub mod NamedLemmas

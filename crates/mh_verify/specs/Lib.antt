@@ -3,6 +3,7 @@ pub mod Kinds
 pub mod Held
 pub mod Refusals
 pub mod Naming
+pub mod Samples
 pub mod Order
 pub mod Least
 pub mod Verdicts

@@ -9,7 +9,9 @@ ghost use Rattle.mh_verify.specs.Least.{least_of};
 use crate::Found;
 use crate::members::least_of_groups;
 use crate::refusal_order::lesser;
+use crate::samples::keep_for;
 use crate::scope::{Scope, refused_at};
+use indexmap::IndexMap;
 use mh_flow::sites::sites_of;
 use mh_flow::{Equipped, Flow, Site};
 use mh_model::Config;
@@ -18,6 +20,7 @@ use std::alloc::{AllocError, Global};
 /// The first of what is wrong with the actions at these sites, and of the best so far.
 #[tactic(auto, using(crate::proofs::LeastLemmas::least_append))]
 fn least_of_sites(
+    alloc: Global,
     best: Option<Found>,
     scope: &Scope<'_>,
     sites: &[Site<'_>],
@@ -27,8 +30,10 @@ fn least_of_sites(
         (flat_map (wrong_at scope.now.service.now ps (held_by ps scope.now.held) scope.now.config.now) sites.now)) }
 {
     let mut best = best;
+    let mut samples = IndexMap::new(alloc);
     for site in sites {
-        if let Some(found) = refused_at(scope, site)? {
+        keep_for(alloc, &mut samples, scope, site.act)?;
+        if let Some(found) = refused_at(scope, &samples, site)? {
             best = Some(lesser(best, found));
         }
     }
@@ -46,7 +51,7 @@ fn least_of_effects(
         (flat_map (wrong_at scope.now.service.now ps (held_by ps scope.now.held) scope.now.config.now) (sites_of ps))) }
 {
     let sites = sites_of(alloc, &scope.present)?;
-    least_of_sites(best, scope, sites.as_slice())
+    least_of_sites(alloc, best, scope, sites.as_slice())
 }
 
 /// The first of what is wrong with the members of what is present, and of the best so far.

@@ -15,6 +15,7 @@ mod members;
 mod named_reference;
 pub mod refusal;
 mod refusal_order;
+mod samples;
 mod scope;
 mod verdict;
 pub mod verifying;

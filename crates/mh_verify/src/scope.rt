@@ -6,11 +6,13 @@ ghost use Rattle.std.specs.Prelude.{◌≡◌, IfOk};
 ghost use Rattle.std.specs.Option.{option_copied};
 ghost use Rattle.mh_flow.specs.Solved.{held_by};
 ghost use Rattle.mh_verify.specs.Refusals.{found_at, refused_at};
+ghost use Rattle.mh_verify.specs.Samples.{AreSamples};
 
 use crate::refusal::ByNumber;
+use crate::samples::{KnownBySamples, Samples};
 use crate::{Found, Place, RefusalKind};
 use mh_base::ObjRef;
-use mh_flow::{Equipped, Held, KnownWith, Present, Site};
+use mh_flow::{Equipped, Held, Present, Site};
 use mh_model::known::first_wrong;
 use mh_model::{Config, Wrong};
 use std::alloc::AllocError;
@@ -52,17 +54,18 @@ fn found_at(scope: &Scope<'_>, site: &Site<'_>, wrong: &Wrong<'_>) -> Result<Fou
     })
 }
 
-/// Why the action at the site is refused, if it is.
-pub fn refused_at(scope: &Scope<'_>, site: &Site<'_>) -> Result<Option<Found>, AllocError>
+/// Why the action at the site is refused, if it is, where these are samples of what variables hold.
+pub fn refused_at(
+    scope: &Scope<'_>,
+    samples: &Samples,
+    site: &Site<'_>,
+) -> Result<Option<Found>, AllocError>
+    requires { AreSamples scope.now.present (held_by scope.now.present scope.now.held) samples.now.entries }
     ensures { IfOk result (λ found. found ≡ refused_at scope.now.service.now scope.now.present
         (held_by scope.now.present scope.now.held) scope.now.config.now site.now) }
 {
-    let known = KnownWith {
-        service: scope.service,
-        present: &scope.present,
-        held: &scope.held,
-    };
-    match first_wrong::<ByNumber, KnownWith<'_>>(&known, site.act) {
+    let known = KnownBySamples::new(scope, samples);
+    match first_wrong::<ByNumber, KnownBySamples<'_>>(&known, site.act) {
         Some(wrong) => Ok(Some(found_at(scope, site, &wrong)?)),
         None => Ok(None),
     }

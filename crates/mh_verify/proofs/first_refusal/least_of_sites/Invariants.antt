@@ -3,9 +3,11 @@ use Rattle.std.specs.List.{flat_map}
 use Rattle.mh_flow.specs.Solved.{held_by}
 use Rattle.mh_verify.specs.Refusals.{wrong_at}
 use Rattle.mh_verify.specs.Least.{least_of}
+use Rattle.mh_verify.specs.Samples.{AreSamples}
 use Rattle.mh_verify.proofs.first_refusal.least_of_sites.Given as goal
 
 abbrev pub invariant-loop-site : goal.invariant-loop-site
 invariant-loop-site l =
-    least_of l.best (flat_map (wrong_at l.scope.service.now l.scope.present (held_by l.scope.present l.scope.held) l.scope.config.now) (drop l.site-index l.sites))
-    ≡ least_of l.fn.best (flat_map (wrong_at l.scope.service.now l.scope.present (held_by l.scope.present l.scope.held) l.scope.config.now) l.sites)
+    (least_of l.best (flat_map (wrong_at l.scope.service.now l.scope.present (held_by l.scope.present l.scope.held) l.scope.config.now) (drop l.site-index l.sites))
+    ≡ least_of l.fn.best (flat_map (wrong_at l.scope.service.now l.scope.present (held_by l.scope.present l.scope.held) l.scope.config.now) l.sites))
+    × AreSamples l.scope.present (held_by l.scope.present l.scope.held) l.samples.entries
