@@ -4,4 +4,5 @@ pub(crate) mod arrows;
 pub(crate) mod chains;
 pub(crate) mod claims;
 pub(crate) mod evidence;
+pub(crate) mod paths;
 pub(crate) mod verify;
