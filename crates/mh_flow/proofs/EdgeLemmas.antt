@@ -45,6 +45,10 @@ tabled old new edge k keys pushed e h = by (any_inserted (same_edge e) old.table
         let is = ends_same e edge same in
         subst (λ (u : ℕ). Contains (row (ends new) u) e.to) is.0 (subst (λ (v : ℕ). Contains (row (ends new) edge.from) v) is.1 pushed.put)
 
+-- what has been pushed besides leaves what stands in the table where it was
+pub still_tabled : (old new : Edges) (u n : ℕ) → AreTabled old → new.table.keys ≡ old.table.keys → Pushed u n (ends old) (ends new) → AreTabled new
+still_tabled old new u n k keys pushed e h = longer_has (ends old) (ends new) e.from e.to pushed.longer (k e (sym (ap (λ (t : List Edge). list_any (same_edge e) t) keys) ∙ h))
+
 -- what stands in the table already is there
 pub known_edge : (old : Edges) (edge : Edge) (is_new : Bool) → is_new ≡ false → is_new ≡ not (list_any (same_edge edge) old.table.keys) → AreTabled old → HasEdge edge.from edge.to is_new (ends old) (ends old)
 known_edge old edge true e added k = absurd cc

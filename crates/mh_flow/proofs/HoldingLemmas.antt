@@ -44,6 +44,7 @@ use Rattle.mh_flow.proofs.ContainsLemmas.{here, behind, in_joined}
 use Rattle.mh_flow.proofs.ListedLemmas.{is_listed, same_application}
 use Rattle.mh_flow.proofs.MentionLemmas.{HoldsFirst, first_number, first_of, written_number}
 use Rattle.mh_flow.proofs.NumberLemmas.{IsAt, has_node, has_number, is_node, is_numbered, led_set_at, member_at_number, reached_set}
+use Rattle.mh_flow.proofs.PassageLemmas.{is_along}
 use Rattle.mh_flow.proofs.PresentLemmas.{own_found, passing, present_found, same_itself}
 use Rattle.mh_flow.proofs.ChainStepLemmas.{says_handed}
 
@@ -176,11 +177,11 @@ config_opens v ch k c b x is at m =
     subst (λ (o : Option Set). Contains (option_map_or (opening.opened_in v ch k) o []) x) (sym (reached_set v ch is))
     (subst (λ (o : Option (Config × Bases)). Contains (option_map_or (λ (e : Config × Bases). opening.by_config v ch k e.0 e.1) o []) x) (sym at) m)
 
-led_opens : (v : Service) (ch : Chart) (k n : ℕ) (c d : Config) (b e : Bases) (x : Item) → IsChart v ch → IsAt ch k c b → IsAt ch n d e → Contains (opening.by_led v c b n (Some (d, e))) x → Contains (opens v ch (fact (suc k) n)) x
+led_opens : (v : Service) (ch : Chart) (k n : ℕ) (c d : Config) (b e : Bases) (x : Item) → IsChart v ch → IsAt ch k c b → IsAt ch n d e → Contains (opening.by_led b n (Some (d, e))) x → Contains (opens v ch (fact (suc k) n)) x
 led_opens v ch k n c d b e x is at there m =
     subst (λ (o : Option Set). Contains (option_map_or (opening.opened_in v ch n) o []) x) (sym (led_set_at v ch k c b is at))
-    (subst (λ (o : Option (Config × Bases)). Contains (option_map_or (λ (y : Config × Bases). opening.by_led v y.0 y.1 n (slice_get ch.configs n)) o []) x) (sym at)
-    (subst (λ (o : Option (Config × Bases)). Contains (opening.by_led v c b n o) x) (sym there) m))
+    (subst (λ (o : Option (Config × Bases)). Contains (option_map_or (λ (y : Config × Bases). opening.by_led y.1 n (slice_get ch.configs n)) o []) x) (sym at)
+    (subst (λ (o : Option (Config × Bases)). Contains (opening.by_led b n o) x) (sym there) m))
 
 held_opens : (v : Service) (ch : Chart) (k : ℕ) (c : Config) (b : Bases) (w q : ObjRef) (u i : ℕ) (x : Item) → IsChart v ch → IsAt ch k c b → node_from v c w b ≡ Some u → member_of ch q ≡ Some i → Contains (opening.by_variable v ch k c b w (Some q)) x → Contains (opens v ch (fact u i)) x
 held_opens v ch k c b w q u i x is at e f m =
@@ -331,20 +332,20 @@ reached_known v ch rows c d a r is s reached active comes e derived =
     let found = has_number v ch d is (is_listed v d is.service derived) in
     let there = is_numbered ch d found.0 found.1 in
     let led = led_known v ch rows c d a r reached.number found.0 reached.bases is s reached reached.is active comes e found.1 in
-    let opened = led_opens v ch reached.number found.0 c d reached.bases there.bases (member 0 found.0) is reached.is.at there.at (here (member 0 found.0) (opening.passed v c reached.bases d there.bases)) in
+    let opened = led_opens v ch reached.number found.0 c d reached.bases there.bases (member 0 found.0) is reached.is.at there.at (here (member 0 found.0) (opening.passed reached.bases d there.bases)) in
     reached_in ch rows d found.0 found.1 (s.opened (fact (suc reached.number) found.0) led (member 0 found.0) opened)
 
 passed_known : (v : Service) (ch : Chart) (rows : List (List Bool)) (c d : Config) (a : Act) (r : ObjRef) (g : List ℕ) (p : Fixed) (q : ObjRef) → IsChart v ch → AreLeast v ch rows → IsReachedIn ch rows c → Contains (active_actions (present v c)) a → ComesWhere v ch rows c a.target r → leads_to v c a.name r ≡ Some d → d.scene ≡ Some g → Contains (group_parts v c.app) p → is_holder p.class ≡ true → HeldWhere v ch rows c p.key q → HeldWhere v ch rows d p.key q
 passed_known v ch rows c d a r g p q is s reached active comes e scene among holder holds n f number =
     let held = holds reached.number reached.bases reached.is in
-    let own : Contains (group_parts v d.app) p = subst (λ (app : List ℕ). Contains (group_parts v app) p) (same_application v c d a.name r g e scene) among in
+    let application = same_application v c d a.name r g e scene in
+    let own : Contains (group_parts v d.app) p = subst (λ (app : List ℕ). Contains (group_parts v app) p) application among in
     let part = own_found v d p is.keys own in
     let node = has_node v ch n d f p.key p is number.at part holder in
     let led = led_known v ch rows c d a r reached.number n reached.bases is s reached reached.is active comes e number.number in
-    let holders = filter (λ (x : Fixed). is_holder x.class) (group_parts v c.app) in
-    let all : Contains (flat_map (opening.taken_along v c reached.bases d f) holders) (item.Edge held.node node.0) = in_joined (opening.taken_along v c reached.bases d f) holders p (item.Edge held.node node.0) (passing (λ (x : Fixed). is_holder x.class) (group_parts v c.app) p holder among) (in_edge_at (node_from v c p.key reached.bases) (node_from v d p.key f) held.node node.0 held.is_node node.1) in
-    let along : Contains (opening.passed v c reached.bases d f) (item.Edge held.node node.0) = subst (λ (o : Option (List ℕ)). Contains (if is_some o then flat_map (opening.taken_along v c reached.bases d f) holders else []) (item.Edge held.node node.0)) (sym scene) all in
-    let opened = led_opens v ch reached.number n c d reached.bases f (item.Edge held.node node.0) is reached.is.at number.at (behind (member 0 n) (opening.passed v c reached.bases d f) (item.Edge held.node node.0) along) in
+    let all : Contains (opening.taken_along reached.bases f) (item.Edge held.node node.0) = is_along v ch reached.number n c d reached.bases f p held.node node.0 is reached.is.at number.at application among holder held.is_node node.1 in
+    let along : Contains (opening.passed reached.bases d f) (item.Edge held.node node.0) = subst (λ (o : Option (List ℕ)). Contains (if is_some o then opening.taken_along reached.bases f else []) (item.Edge held.node node.0)) (sym scene) all in
+    let opened = led_opens v ch reached.number n c d reached.bases f (item.Edge held.node node.0) is reached.is.at number.at (behind (member 0 n) (opening.passed reached.bases d f) (item.Edge held.node node.0) along) in
     record {
       node = node.0;
       is_node = node.1;

@@ -17,6 +17,7 @@ pub mod OpeningLemmas
 pub mod WalkedLemmas
 pub mod PlaceLemmas
 pub mod NumberLemmas
+pub mod PassageLemmas
 pub mod PresentLemmas
 pub mod MentionLemmas
 pub mod MeaningLemmas

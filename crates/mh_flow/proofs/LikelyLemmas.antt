@@ -24,7 +24,7 @@ use Rattle.mh_flow.proofs.PlaceLemmas.{any_member, get_member, place, placed, po
 use Rattle.mh_flow.proofs.PresentLemmas.{group_apart, same_itself}
 
 -- where no two have one key, the one with it stands at its place alone
-apart_place : (r : ObjRef) (ps : List Fixed) (i : ℕ) (p : Fixed) → are_apart ps ≡ true → slice_get ps i ≡ Some p → same_ref r p.key ≡ true → place_in ps r ≡ Some i
+pub apart_place : (r : ObjRef) (ps : List Fixed) (i : ℕ) (p : Fixed) → are_apart ps ≡ true → slice_get ps i ≡ Some p → same_ref r p.key ≡ true → place_in ps r ≡ Some i
 apart_place r [] i p apart at is = absurd cc
 apart_place r (x ∷ ps) zero p apart at is =
     position_next (λ (q : Fixed). same_ref r q.key) x ps

@@ -1,5 +1,5 @@
 -- What is opened is within bounds, and means what is derived where its cause does.
-use Rattle.std.specs.Prelude.{◌≡◌, ◌⊎◌, ℕ, suc, ◌<◌, ◌≤◌, Bool, true, false, ◌&&◌, nat_lt, if◌then◌else◌, List, [], ◌++◌, filter, length, slice_get, Option, Some, None, refl}
+use Rattle.std.specs.Prelude.{◌≡◌, ◌⊎◌, ℕ, suc, ◌<◌, ◌≤◌, Bool, true, false, ◌&&◌, nat_lt, if◌then◌else◌, List, [], ◌++◌, length, slice_get, Option, Some, None, refl}
 use Rattle.std.specs.List.{Contains, flat_map}
 use Rattle.std.specs.Option.{is_some, option_map_or, option_to_list}
 use Rattle.std.proofs.Common.{ap, ◌∙◌, sym, subst, arith, inl, inr}
@@ -24,7 +24,7 @@ use Rattle.mh_model.proofs.ServiceLemmas.{same_ref-same}
 use Rattle.mh_laws.specs.Active.{active_actions, leads_to}
 use Rattle.mh_laws.specs.Describing as saying
 use Rattle.mh_laws.specs.Describing.{Says, says}
-use Rattle.mh_laws.specs.Flow.{fills, is_given, is_holder, is_list_in, is_reference_in, reads_reference}
+use Rattle.mh_laws.specs.Flow.{fills, is_given, is_list_in, is_reference_in, reads_reference}
 use Rattle.mh_laws.specs.Least as least
 use Rattle.mh_laws.specs.Least.{Derived, Reached, Held, Comes, Hands, start, named, referred, written, read, original_value, original_item, given, filled, led, passed}
 use Rattle.mh_flow.specs.declared.fixpoint.constraints.Fact.{Fact}
@@ -39,15 +39,17 @@ use Rattle.mh_flow.specs.Chart.{Chart, IsChart, config_number, firsts, member_of
 use Rattle.mh_flow.specs.Opening as opening
 use Rattle.mh_flow.specs.Opening.{member, member_at, edge_at, system_of, opens, wider}
 use Rattle.mh_flow.proofs.ContainsLemmas.{halves, first_or_behind, joined_from, no_member}
+use Rattle.mh_flow.proofs.ListedLemmas.{same_application}
 use Rattle.mh_flow.proofs.MentionLemmas.{HoldsFirst, holds_first}
 use Rattle.mh_flow.proofs.NumberLemmas.{IsAt, is_node, is_numbered, led_set_at, member_at_number, reached_set}
+use Rattle.mh_flow.proofs.PassageLemmas.{IsAlong, along_is}
 use Rattle.mh_flow.proofs.PlaceLemmas.{lone}
-use Rattle.mh_flow.proofs.PresentLemmas.{passing_from}
 use Rattle.mh_flow.proofs.ChainStepLemmas.{handed_says}
 
 -- the one configuration leads to the other, as far as is derived
 pub record IsLedTo (v : Service) (c d : Config) : Type 0 where
   pub reached : Derived v (Reached d)
+  pub application : (g : List ℕ) → d.scene ≡ Some g → c.app ≡ d.app
   pub passed : (g : List ℕ) (p : Fixed) (q : ObjRef) → d.scene ≡ Some g → Contains (group_parts v c.app) p → Derived v (Held c p.key q) → Derived v (Held d p.key q)
 
 -- what it means that a set has the member with this number
@@ -192,6 +194,7 @@ led_good v ch P k c b a r x h m = by (leads_to v c a.name r) refl m
     leads : (d : Config) → leads_to v c a.name r ≡ Some d → P → IsLedTo v c d
     leads d e p = record {
       reached = led c a r d (h.reached p) h.active (h.comes p) e;
+      application = λ g scene. same_application v c d a.name r g e scene;
       passed = λ g part q scene among held. passed c a r d g part q (h.reached p) h.active (h.comes p) e scene among held;
     }
 
@@ -247,9 +250,9 @@ config_good v ch P k c b x is at reached m = by (Contains-append_cases (flat_map
     by (inl l) = let from = joined_from (opening.held_first v ch c b) (present v c) x l in first from.0 from.1 from.2
     by (inr l) = let from = joined_from (λ (a : Act). opening.does_direct v ch k c b a a.target) (active_actions (present v c)) x l in direct from.0 from.0.target refl from.1 from.2
 
-led_on_good : (v : Service) (ch : Chart) (P : Type 0) (k : ℕ) (c : Config) (b : Bases) (n : ℕ) (o : Option (Config × Bases)) (x : Item) → IsChart v ch → IsAt ch k c b → slice_get ch.configs n ≡ o → ((d : Config) (e : Bases) → IsAt ch n d e → P → IsLedTo v c d) → Contains (opening.by_led v c b n o) x → IsGood v ch P x
+led_on_good : (v : Service) (ch : Chart) (P : Type 0) (k : ℕ) (c : Config) (b : Bases) (n : ℕ) (o : Option (Config × Bases)) (x : Item) → IsChart v ch → IsAt ch k c b → slice_get ch.configs n ≡ o → ((d : Config) (e : Bases) → IsAt ch n d e → P → IsLedTo v c d) → Contains (opening.by_led b n o) x → IsGood v ch P x
 led_on_good v ch P k c b n None x is at e leads m = absurd (no_member x m)
-led_on_good v ch P k c b n (Some (d, f)) x is at e leads m = by (first_or_behind (member 0 n) (opening.passed v c b d f) x m)
+led_on_good v ch P k c b n (Some (d, f)) x is at e leads m = by (first_or_behind (member 0 n) (opening.passed b d f) x m)
   where
     reached : IsGood v ch P (member 0 n)
     reached =
@@ -259,14 +262,20 @@ led_on_good v ch P k c b n (Some (d, f)) x is at e leads m = by (first_or_behind
           meant = λ h. subst (λ (o : Option Set). Means v ch o n) (sym zeroth) (λ d2 f2 there. subst (λ (y : Config). Derived v (Reached y)) (same_entry ch n d d2 f f2 e there) (leads d f e h).reached);
         }
 
-    taken : (scene : Option (List ℕ)) → d.scene ≡ scene → Contains (if is_some scene then flat_map (opening.taken_along v c b d f) (filter (λ (p : Fixed). is_holder p.class) (group_parts v c.app)) else []) x → IsGood v ch P x
+    along : (g : List ℕ) → d.scene ≡ Some g → (y : IsAlong v ch c d b f x) → IsGood v ch P (item.Edge y.from y.to)
+    along g is_scene y = record {
+      fits = (y.from_within, y.to_within);
+      meant = λ h i known. held_means v ch n d f y.part.key y.to i is e (y.aim ((leads d f e h).application g is_scene))
+          (λ q names. (leads d f e h).passed g y.part q is_scene y.among (means_held v ch k c b y.part.key y.from i q is at y.source names known));
+    }
+
+    taken : (scene : Option (List ℕ)) → d.scene ≡ scene → Contains (if is_some scene then opening.taken_along b f else []) x → IsGood v ch P x
     taken None is_none l = absurd (no_member x l)
     taken (Some g) is_scene l =
-        let from = joined_from (opening.taken_along v c b d f) (filter (λ (p : Fixed). is_holder p.class) (group_parts v c.app)) x l in
-        let part = passing_from (λ (p : Fixed). is_holder p.class) (group_parts v c.app) from.0 from.1 in
-        edge_good v ch P k c b from.0.key n d f from.0.key x is at e (λ h q held. (leads d f e h).passed g from.0 q is_scene part.1 held) from.2
+        let one = along_is v ch k n c d b f x is at e l in
+        subst (λ (y : Item). IsGood v ch P y) one.edge (along g is_scene one)
 
-    by : (member 0 n ≡ x) ⊎ Contains (opening.passed v c b d f) x → IsGood v ch P x
+    by : (member 0 n ≡ x) ⊎ Contains (opening.passed b d f) x → IsGood v ch P x
     by (inl same) = subst (λ (y : Item). IsGood v ch P y) same reached
     by (inr l) = taken d.scene refl l
 
@@ -325,7 +334,7 @@ set_good v ch q set.Reached x is m = by (slice_get ch.configs q) refl m
     by (Some (c, b)) e l = config_good v ch (Means v ch (Some set.Reached) q) q c b x is e (λ h. h c b e) l
 set_good v ch q (set.Led k) x is m = by (slice_get ch.configs k) refl m
   where
-    by : (o : Option (Config × Bases)) → slice_get ch.configs k ≡ o → Contains (option_map_or (λ (e : Config × Bases). opening.by_led v e.0 e.1 q (slice_get ch.configs q)) o []) x → IsGood v ch (Means v ch (Some (set.Led k)) q) x
+    by : (o : Option (Config × Bases)) → slice_get ch.configs k ≡ o → Contains (option_map_or (λ (e : Config × Bases). opening.by_led e.1 q (slice_get ch.configs q)) o []) x → IsGood v ch (Means v ch (Some (set.Led k)) q) x
     by None e l = absurd (no_member x l)
     by (Some (c, b)) e l = led_on_good v ch (Means v ch (Some (set.Led k)) q) k c b q (slice_get ch.configs q) x is e refl (λ d f there h. h c d b f e there) l
 set_good v ch q (set.Held k j) x is m = by (slice_get ch.configs k) refl m

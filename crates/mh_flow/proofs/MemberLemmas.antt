@@ -315,6 +315,36 @@ pass_next a b c to bs at w k is members put = record {
       (then_put a b c _ _ k.put put);
 }
 
+-- a row that is there already changes nothing
+pub alike_put : (m : MemberRows) (to : ℕ) (bs : List Bool) → row m.known to ≡ bs → IsPut m m (λ u q. nat_eq u to && is_at bs q)
+alike_put m to bs same = record {
+  words = refl;
+  height = refl;
+  known = λ u q. known u q (nat_eq u to) refl;
+  fresh = λ u q. fresh u q (nat_eq u to) refl;
+  less = omega arith;
+}
+  where
+    there : (u q : ℕ) → nat_eq u to ≡ true → is_at bs q ≡ has m.known u q
+    there u q e = ap (λ (r : List Bool). is_at r q) (sym same) ∙ ap (λ (x : ℕ). has m.known x q) (sym (eqb-true u to e))
+
+    twice : (k : Bool) → k ≡ (k || k)
+    twice true = refl
+    twice false = refl
+
+    none_new : (f k : Bool) → f ≡ (f || (k && not k))
+    none_new true k = refl
+    none_new false true = refl
+    none_new false false = refl
+
+    known : (u q : ℕ) → (b : Bool) → nat_eq u to ≡ b → has m.known u q ≡ (has m.known u q || (b && is_at bs q))
+    known u q true e = twice (has m.known u q) ∙ ap (λ (k : Bool). has m.known u q || k) (sym (there u q e))
+    known u q false e = or_false (has m.known u q)
+
+    fresh : (u q : ℕ) → (b : Bool) → nat_eq u to ≡ b → has m.fresh u q ≡ (has m.fresh u q || ((b && is_at bs q) && not (has m.known u q)))
+    fresh u q true e = none_new (has m.fresh u q) (has m.known u q) ∙ ap (λ (k : Bool). has m.fresh u q || (k && not (has m.known u q))) (sym (there u q e))
+    fresh u q false e = or_false (has m.fresh u q)
+
 past_end : (bs : List Bool) (q : ℕ) → length bs ≤ q → is_at bs q ≡ false
 past_end [] q e = refl
 past_end (b ∷ bs) zero e = absurd (omega (arith, e))

@@ -173,7 +173,7 @@ place_of_key v c r = place (λ (p : Fixed). same_ref r p.key) (holders (present 
 summed : (a b : ℕ) → a + b < 2 ^ 64 → sum_of a b ≡ Some (a + b)
 summed a b less = ap (λ (t : Bool). if t then Some (a + b) else None) (lt-ltb (a + b) (2 ^ 64) less)
 
-holders_joined : (v : Service) (c : Config) → holders (present v c) ≡ holders (group_parts v c.app) ++ holders (scene_parts v c.scene)
+pub holders_joined : (v : Service) (c : Config) → holders (present v c) ≡ holders (group_parts v c.app) ++ holders (scene_parts v c.scene)
 holders_joined v c = filter-append (λ (p : Fixed). is_holder p.class) (group_parts v c.app) (scene_parts v c.scene)
 
 -- the number of a set is that of the first, and its place

@@ -1,7 +1,7 @@
 -- What a member of a set opens: a configuration that is reached what its objects hold at first, and what its actions do
 -- whose targets are written; one to which a configuration leads, that it is reached, and that the application's objects
 -- take along what they hold; what a variable holds, what the actions do whose targets it is.
-use Rattle.std.specs.Prelude.{ℕ, suc, ◌&&◌, nat_lt, if◌then◌else◌, List, [], ◌∷◌, ◌++◌, filter, length, slice_get, Option, Some, None}
+use Rattle.std.specs.Prelude.{ℕ, zero, suc, ◌-◌, ◌&&◌, nat_lt, if◌then◌else◌, List, [], ◌∷◌, ◌++◌, length, slice_get, Option, Some, None}
 use Rattle.std.specs.List.{flat_map}
 use Rattle.std.specs.Option.{is_some, option_map, option_map_or, option_to_list}
 use Rattle.mh_base.specs.declared.obj_ref.ObjRef.{ObjRef}
@@ -16,9 +16,9 @@ use Rattle.mh_model.specs.declared.object.Fixed.{Fixed}
 use Rattle.mh_model.specs.Arguments.{receivers}
 use Rattle.mh_model.specs.Configuration.{present, starting}
 use Rattle.mh_model.specs.Reference.{same_ref}
-use Rattle.mh_model.specs.Service.{Service, group_parts}
+use Rattle.mh_model.specs.Service.{Service}
 use Rattle.mh_laws.specs.Active.{active_actions, is_active, leads_to}
-use Rattle.mh_laws.specs.Flow.{fills, is_given, is_holder, is_list_in, is_reference_in}
+use Rattle.mh_laws.specs.Flow.{fills, is_given, is_list_in, is_reference_in}
 use Rattle.mh_flow.specs.declared.chart.Set.{Set}
 use Rattle.mh_flow.specs.declared.chart.Set.TheVariants as set
 use Rattle.mh_flow.specs.declared.fixpoint.constraints.Fact.{Fact}
@@ -123,18 +123,26 @@ abbrev pub by_config : Service → Chart → ℕ → Config → Bases → List I
 by_config v ch k c b =
     flat_map (held_first v ch c b) (present v c) ++ flat_map (λ a. does_direct v ch k c b a a.target) (active_actions (present v c))
 
--- an object takes along what it holds
-abbrev pub taken_along : Service → Config → Bases → Config → Bases → Fixed → List Item
-taken_along v c b d e p = edge_at (node_from v c p.key b) (node_from v d p.key e)
+-- so many edges, from each set to the one beside it
+abbrev pub side_by_side : ℕ → ℕ → ℕ → List Item
+side_by_side u w zero = []
+side_by_side u w (suc n) = item.Edge u w ∷ side_by_side (suc u) (suc w) n
 
-abbrev pub passed : Service → Config → Bases → Config → Bases → List Item
-passed v c b d e =
-    if is_some d.scene then flat_map (taken_along v c b d e) (filter (λ p. is_holder p.class) (group_parts v c.app)) else []
+abbrev pub smaller : ℕ → ℕ → ℕ
+smaller a b = if nat_lt a b then a else b
+
+-- The sets of an application stand in one order in each configuration, so that each object of it takes along what it holds.
+-- Whoever leads to a scene keeps its application, so that both have as many.
+abbrev pub taken_along : Bases → Bases → List Item
+taken_along b e = side_by_side b.application e.application (smaller (b.scene - b.application) (e.scene - e.application))
+
+abbrev pub passed : Bases → Config → Bases → List Item
+passed b d e = if is_some d.scene then taken_along b e else []
 
 -- a configuration leads to the one with this number
-abbrev pub by_led : Service → Config → Bases → ℕ → Option (Config × Bases) → List Item
-by_led v c b n None = []
-by_led v c b n (Some e) = member 0 n ∷ passed v c b e.0 e.1
+abbrev pub by_led : Bases → ℕ → Option (Config × Bases) → List Item
+by_led b n None = []
+by_led b n (Some e) = member 0 n ∷ passed b e.0 e.1
 
 -- a variable holds a reference
 abbrev pub by_variable : Service → Chart → ℕ → Config → Bases → ObjRef → Option ObjRef → List Item
@@ -151,7 +159,7 @@ by_object v ch k c b r (Some p) = by_variable v ch k c b p.key r
 
 abbrev pub opened_in : Service → Chart → ℕ → Set → List Item
 opened_in v ch q set.Reached = option_map_or (λ e. by_config v ch q e.0 e.1) (slice_get ch.configs q) []
-opened_in v ch q (set.Led k) = option_map_or (λ e. by_led v e.0 e.1 q (slice_get ch.configs q)) (slice_get ch.configs k) []
+opened_in v ch q (set.Led k) = option_map_or (λ e. by_led e.1 q (slice_get ch.configs q)) (slice_get ch.configs k) []
 opened_in v ch q (set.Held k j) =
     option_map_or (λ e. by_object v ch k e.0 e.1 (slice_get ch.members q) (slice_get (present v e.0) j)) (slice_get ch.configs k) []
 

@@ -212,7 +212,7 @@ impl Chart {
     }
 
     /// Where the object stands among those of its group that have a set, if it is one of them.
-    pub fn holder(&self, at: &ObjRef) -> Option<&Home>
+    fn holder(&self, at: &ObjRef) -> Option<&Home>
         ensures { option_copied result ≡ lookup (same_ref at.now) self.now.holders }
     {
         home_of(&self.holders, at)
@@ -223,22 +223,7 @@ impl Chart {
         ensures { (v : _) → AreNamed v → self.now.holders ≡ held_index v
             → result ≡ spec.node_from v config.now at.now bases.now }
     {
-        self.node_with(config, at, bases, self.holder(at))
-    }
-
-    /// The same, where it is known where the object stands.
-    pub fn node_with(
-        &self,
-        config: &Config,
-        at: &ObjRef,
-        bases: &Bases,
-        holder: Option<&Home>,
-    ) -> Option<usize>
-        requires { option_copied holder ≡ lookup (same_ref at.now) self.now.holders }
-        ensures { (v : _) → AreNamed v → self.now.holders ≡ held_index v
-            → result ≡ spec.node_from v config.now at.now bases.now }
-    {
-        match holder {
+        match self.holder(at) {
             None => None,
             Some(home) => first_of(
                 node_at(at.group == config.app, bases.application, home.place),

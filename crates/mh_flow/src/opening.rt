@@ -61,6 +61,14 @@ impl<'a, 's> Rules for Opening<'a, 's> {
         if members < configs { configs } else { members }
     }
 
+    fn recurs(&self, from: usize, to: usize) -> bool {
+        // What leads from one configuration to another is opened by one member of one set alone.
+        match (self.chart.set_at(from), self.chart.set_at(to)) {
+            (Some(Set::Held(first, _)), Some(Set::Held(second, _))) => first == second,
+            _ => true,
+        }
+    }
+
     fn starts(&self, items: &mut Vec<Item>) -> Result<(), AllocError> {
         let start = starting(self.service)?;
         push_member(items, Some(0), self.chart.config_number(&start))
@@ -140,7 +148,7 @@ impl<'a, 's> Opening<'a, 's> {
     fn push_led(&self, items: &mut Vec<Item>, from: usize, to: usize) -> Result<(), AllocError>
         ensures { let v = self.now.service in let ch = self.now.chart in
             OnOk result (items.new.items ≡ items.old.items
-            ++ option_map_or (λ e. spec.by_led v e.0 e.1 to (slice_get ch.configs to)) (slice_get ch.configs from) []) }
+            ++ option_map_or (λ e. spec.by_led e.1 to (slice_get ch.configs to)) (slice_get ch.configs from) []) }
     {
         match self.place(from) {
             None => Ok(()),

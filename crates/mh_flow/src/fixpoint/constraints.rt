@@ -33,6 +33,9 @@ pub trait Rules {
     fn width(&self) -> usize
         ensures { result ≡ (system self.now).width };
 
+    /// Whether the edge may be opened more than once. A wrong answer costs time alone.
+    fn recurs(&self, from: usize, to: usize) -> bool;
+
     /// Puts behind these what is there at the start.
     fn starts(&self, items: &mut Vec<Item>) -> Result<(), AllocError>
         ensures { OnOk result (items.new.items ≡ items.old.items ++ (system self.now).starts) };

@@ -1,8 +1,8 @@
 //! Edges between sets: to which sets the members of a set go.
 //!
-//! Promise: whether an edge is there is one look into a table, and the ends of a set's edges stand in the order in which
-//! they came.
-ghost use Rattle.std.specs.Prelude.{◌≡◌, ◌<◌, [], length, replicate, true, false, IfOk};
+//! Promise: whether an edge that may come again is there is one look into a table, and the ends of a set's edges stand in
+//! the order in which they came.
+ghost use Rattle.std.specs.Prelude.{◌≡◌, ◌<◌, [], length, replicate, true, false, IfOk, OnOk};
 ghost use Rattle.std.specs.List.{Contains, slice_index};
 ghost use Rattle.mh_flow.specs.Rows.{row, number_rows};
 ghost use Rattle.mh_flow.specs.Edging.{ends, HasEdge, AreTabled};
@@ -18,7 +18,7 @@ pub struct Edge {
     pub to: usize,
 }
 
-/// Edges. The table tells that one is there; the rows have the ends of each set's edges.
+/// Edges. The rows have the ends of each set's edges; the table tells of those that may come again that one is there.
 #[derive(Drop)]
 pub struct Edges {
     table: IndexSet<Edge>,
@@ -37,8 +37,34 @@ impl Edges {
         })
     }
 
-    /// Puts an edge in, and tells whether it is new.
-    pub fn insert(&mut self, from: usize, to: usize) -> Result<bool, AllocError>
+    /// Puts an edge in, and tells whether it is new. The table is asked where it may come again.
+    pub fn insert(&mut self, from: usize, to: usize, recurs: bool) -> Result<bool, AllocError>
+        requires tabled { AreTabled self.old }
+        requires from { from < length (ends self.old) }
+        ensures tabled { IfOk result (λ is_new. AreTabled self.new) }
+        ensures put { IfOk result (λ is_new. HasEdge from to is_new (ends self.old) (ends self.new)) }
+    {
+        if recurs {
+            self.insert_recurring(from, to)
+        } else {
+            self.push(from, to)?;
+            Ok(true)
+        }
+    }
+
+    /// Puts in an edge that comes once.
+    fn push(&mut self, from: usize, to: usize) -> Result<(), AllocError>
+        requires tabled { AreTabled self.old }
+        requires from { from < length (ends self.old) }
+        ensures tabled { OnOk result (AreTabled self.new) }
+        ensures put { OnOk result (HasEdge from to true (ends self.old) (ends self.new)) }
+    {
+        push_at(&mut self.rows, from, to)?;
+        Ok(())
+    }
+
+    /// Puts in an edge that may have come before.
+    fn insert_recurring(&mut self, from: usize, to: usize) -> Result<bool, AllocError>
         requires tabled { AreTabled self.old }
         requires from { from < length (ends self.old) }
         ensures tabled { IfOk result (λ is_new. AreTabled self.new) }

@@ -68,7 +68,7 @@ impl Gathered {
         ensures put { OnOk result (IsIn (view self.new) (item.Edge from to)) }
     {
         // Rules may open an edge many times; its members go along it once.
-        let is_new = self.edges.insert(from, to)?;
+        let is_new = self.edges.insert(from, to, rules.recurs(from, to))?;
         if is_new {
             self.members.carry(from, to)?;
         }

@@ -17,7 +17,9 @@ ghost use Rattle.mh_flow.specs.Membership.{
 
 use crate::fixpoint::bits::Bits;
 use crate::fixpoint::constraints::Fact;
-use crate::fixpoint::rows::{empty_bits, lay_out, put_word, take_row, word_at, words_at};
+use crate::fixpoint::rows::{
+    are_rows_alike, empty_bits, is_row, lay_out, put_word, take_row, word_at, words_at,
+};
 use std::alloc::{AllocError, Global};
 
 /// Members of sets.
@@ -69,6 +71,10 @@ impl Members {
         ensures put { OnOk result (IsPut (rows_of self.old) (rows_of self.new)
             (λ u q. nat_eq u to && is_at row.now q)) }
     {
+        // Most that goes along an edge is there already.
+        if is_row(self.known.as_slice(), to, row) {
+            return Ok(());
+        }
         for at in 0..row.words() {
             self.put(to, at, row.word(at))?;
         }
@@ -84,6 +90,9 @@ impl Members {
         ensures put { OnOk result (IsPut (rows_of self.old) (rows_of self.new)
             (λ u q. nat_eq u to && has self.old.known.items from q)) }
     {
+        if are_rows_alike(self.known.as_slice(), from, to) {
+            return Ok(());
+        }
         let words = words_at(self.known.as_slice(), from);
         for at in 0..words {
             let bits = word_at(self.known.as_slice(), from, at);

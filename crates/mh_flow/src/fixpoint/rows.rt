@@ -1,7 +1,7 @@
 //! Rows of bits and of numbers.
 //!
 //! Promise: each call changes one row by one thing; a row of bits is laid out when its first bit is wanted.
-ghost use Rattle.std.specs.Prelude.{◌≡◌, ◌<◌, ◌≤◌, ◌*◌, ◌^◌, ◌⊎◌, [], length, vec_len, replicate, IfOk, OnOk};
+ghost use Rattle.std.specs.Prelude.{◌≡◌, ◌<◌, ◌≤◌, ◌*◌, ◌^◌, ◌⊎◌, [], true, length, vec_len, replicate, IfOk, OnOk};
 ghost use Rattle.std.specs.List.{slice_index};
 ghost use Rattle.mh_flow.specs.Rows.{width_at, row, IsWord, LaidOut, WordPut, Emptied, Pushed, number_rows};
 
@@ -45,6 +45,23 @@ pub fn word_at(rows: &[Bits], node: usize, at: usize) -> u64
     ensures { IsWord (row rows.now node) at result }
 {
     rows[node].word(at)
+}
+
+/// Whether a row is known to be these bits.
+pub fn is_row(rows: &[Bits], node: usize, bits: &Bits) -> bool
+    requires { node < length rows.now }
+    ensures { result ≡ true → row rows.now node ≡ bits.now }
+{
+    rows[node].is_alike(bits)
+}
+
+/// Whether two rows are known to be the same bits.
+pub fn are_rows_alike(rows: &[Bits], first: usize, second: usize) -> bool
+    requires first { first < length rows.now }
+    requires second { second < length rows.now }
+    ensures { result ≡ true → row rows.now first ≡ row rows.now second }
+{
+    rows[first].is_alike(&rows[second])
 }
 
 /// Lays out a row of bits, if it is not laid out.

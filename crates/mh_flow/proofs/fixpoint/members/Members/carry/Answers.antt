@@ -19,7 +19,7 @@ put-requires-clause-node c = subst (λ (n : ℕ). c.args.to < n) (sym c.loop-at.
 
 pub put-requires-clause-at : goal.put-requires-clause-at
 put-requires-clause-at c =
-    let wide = c.words_at-words.ensures ∙ ap (λ (t : List (List Bool)). width_at t c.args.from) c.as_slice.ensures.value in
+    let wide = c.words_at-words.ensures ∙ ap (λ (t : List (List Bool)). width_at t c.args.from) c.as_slice-2.ensures.value in
     let most = known_words (rows_of c.args.self.now) c.args.from c.requires.members in
     omega (arith, c.loop-at-test.true, wide, most, c.loop-at.invariant.put.words)
 
@@ -35,5 +35,5 @@ returns-clause-members c = c.loop-at.invariant.members
 
 pub returns-clause-put : goal.returns-clause-put
 returns-clause-put c =
-    let wide = c.words_at-words.ensures ∙ ap (λ (t : List (List Bool)). width_at t c.args.from) c.as_slice.ensures.value in
+    let wide = c.words_at-words.ensures ∙ ap (λ (t : List (List Bool)). width_at t c.args.from) c.as_slice-2.ensures.value in
     passed (rows_of c.args.self.now) (rows_of c.loop-at.self) c.args.to (row c.args.self.now.known.items c.args.from) c.loop-at.at c.loop-at.invariant (omega (arith, c.loop-at-test.false, wide))

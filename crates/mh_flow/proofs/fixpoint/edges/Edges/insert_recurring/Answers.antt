@@ -1,5 +1,5 @@
 use Rattle.mh_flow.proofs.EdgeLemmas.{tabled, known_edge}
-use Rattle.mh_flow.proofs.fixpoint.edges.Edges.insert.Goals as goal
+use Rattle.mh_flow.proofs.fixpoint.edges.Edges.insert_recurring.Goals as goal
 
 pub returns-in_ok-push_at-clause-tabled : goal.returns-in_ok-push_at-clause-tabled
 returns-in_ok-push_at-clause-tabled c =
