@@ -3,19 +3,23 @@
 //! Promise: the lines are those of what is found by the sets of what may come to be, whose laws say that it never happens,
 //! and then those of notes.
 ghost use Rattle.std.specs.Prelude.{◌≡◌, ◌++◌, IfOk, OnOk};
-ghost use Rattle.mh_flow.specs.Solved.{IsFlowOf, flow_in};
+ghost use Rattle.mh_flow.specs.Solved.{IsFlowOf, flow_in, reached_configs};
+ghost use Rattle.mh_lint.specs.Findings.{findings};
 ghost use Rattle.mh_lint.specs.Lint.{IsLintText, IsNeverText};
 ghost use Rattle.mh_lint.specs.NoteLines.{notes_words};
 ghost use Rattle.mh_lint.specs.Notes.{notes as notes_lem};
+ghost use Rattle.mh_lint.specs.Telling.{never_words};
 
+use crate::finding::Finding;
 use crate::findings::findings_of;
 use crate::note_lines::put_notes;
 use crate::notes::notes_of;
 use crate::rule::Allowed;
 use crate::telling::put_findings;
-use mh_alive::alive_of;
+use mh_alive::{Alive, alive_of};
 use mh_base::GroupName;
 use mh_flow::{Equipped, Flow};
+use mh_model::Config;
 use mh_told::text::Text;
 use std::alloc::{AllocError, Global};
 
@@ -56,17 +60,58 @@ fn never_text(
     ensures { IfOk result (IsNeverText all service.now (flow_in service.now flow.now) files.now) }
 {
     let alive = alive_of(alloc, service, flow)?;
+    let text = text_by(alloc, service, flow, files, &alive, all);
+    drop(alive);
+    text
+}
+
+/// The lines on what never happens, by these sets of what may come to be.
+fn text_by(
+    alloc: Global,
+    service: &Equipped<'_>,
+    flow: &Flow,
+    files: &[(GroupName, Vec<u8>)],
+    alive: &Alive,
+    all: bool,
+) -> Result<Text, AllocError>
+    ensures { let configs = reached_configs flow.now.chart flow.now.rows in
+        IfOk result (λ text. text ≡ never_words service.now configs files.now (findings all service.now configs alive.now)) }
+{
     let configs = flow.configs(alloc)?;
-    let found = findings_of(alloc, service, configs.as_slice(), &alive, all)?;
+    let text = text_of_findings(alloc, service, configs.as_slice(), files, alive, all);
+    drop(configs);
+    text
+}
+
+/// The same, where these configurations are reached.
+fn text_of_findings(
+    alloc: Global,
+    service: &Equipped<'_>,
+    configs: &[Config],
+    files: &[(GroupName, Vec<u8>)],
+    alive: &Alive,
+    all: bool,
+) -> Result<Text, AllocError>
+    ensures { IfOk result (λ text. text
+        ≡ never_words service.now configs.now files.now (findings all service.now configs.now alive.now)) }
+{
+    let found = findings_of(alloc, service, configs, alive, all)?;
+    let text = lines_on(alloc, service, configs, files, found.as_slice());
+    drop(found);
+    text
+}
+
+fn lines_on(
+    alloc: Global,
+    service: &Equipped<'_>,
+    configs: &[Config],
+    files: &[(GroupName, Vec<u8>)],
+    found: &[Finding],
+) -> Result<Text, AllocError>
+    ensures { IfOk result (λ text. text ≡ never_words service.now configs.now files.now found.now) }
+{
     let mut text = Text::new(alloc);
-    put_findings(
-        alloc,
-        &mut text,
-        service,
-        configs.as_slice(),
-        files,
-        found.as_slice(),
-    )?;
+    put_findings(alloc, &mut text, service, configs, files, found)?;
     Ok(text)
 }
 

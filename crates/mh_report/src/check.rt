@@ -1,10 +1,12 @@
 //! `check_bytes`: a service as bytes, and what the verifier says of it.
 ghost use Rattle.std.specs.Prelude.{◌≡◌, ◌-◌, ◌<◌, ◌^◌, [], IfOk, OnOk, OnErr, IsErrOf};
 ghost use Rattle.std.specs.Io.KnownBytes.{Appends};
+ghost use Rattle.mh_model.specs.Service.{Service as ServiceValue};
 ghost use Rattle.mh_report.specs.Sink.{IsBeginning};
 ghost use Rattle.mh_report.specs.Played.{Checks, HasWritten, HasBegun};
 ghost use Rattle.mh_verdict.specs.Lines.{accepted_lines};
 ghost use Rattle.mh_report.specs.Reading.{chosen_service};
+ghost use Rattle.mh_verify.specs.Order.{IsTold};
 
 use crate::options::Options;
 use crate::play::{complain, refuse};
@@ -18,7 +20,7 @@ use mh_layers::Bounds;
 use mh_service::Service;
 use mh_told::unplayable::Unplayable;
 use mh_verdict::accepted_text;
-use mh_verify::RefusalKind;
+use mh_verify::{Refusal, RefusalKind};
 use std::alloc::Global;
 
 /// Says whether the verifier accepts the service of these files, with its bounds, or why not. After an error a beginning of
@@ -51,11 +53,31 @@ fn judge<S: Sink>(alloc: Global, service: Service, sink: &mut S) -> Result<Statu
     ensures write { IsErrOf result PlayError.Write → S.failures sink.old < S.failures sink.new }
 {
     match verified(alloc, service) {
-        Ok(accepted) => accept(alloc, &accepted.bounds(), sink),
-        Err(refusal) => match refusal.kind {
-            RefusalKind::NoMemory => Err(PlayError::NoMemory),
-            _ => refuse(alloc, &refusal, sink),
-        },
+        Ok(accepted) => {
+            let bounds = accepted.bounds();
+            drop(accepted);
+            accept(alloc, &bounds, sink)
+        }
+        Err(refusal) => {
+            let status = answer_refusal(alloc, &refusal, sink);
+            drop(refusal);
+            status
+        }
+    }
+}
+
+/// Says why a service is refused; nothing where that is for want of memory.
+fn answer_refusal<S: Sink>(alloc: Global, refusal: &Refusal, sink: &mut S) -> Result<Status, PlayError>
+    requires { S.failures sink.old < 2 ^ 64 - 1 }
+    ensures written { (s : ServiceValue) → IsTold s [] refusal.now →
+        IfOk result (HasWritten (Checks (Ok s)) (S.written sink.old) (S.written sink.new)) }
+    ensures begun { (s : ServiceValue) → IsTold s [] refusal.now →
+        OnErr result (HasBegun (Checks (Ok s)) (S.written sink.old) (S.written sink.new)) }
+    ensures write { IsErrOf result PlayError.Write → S.failures sink.old < S.failures sink.new }
+{
+    match refusal.kind {
+        RefusalKind::NoMemory => Err(PlayError::NoMemory),
+        _ => refuse(alloc, refusal, sink),
     }
 }
 

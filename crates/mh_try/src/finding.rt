@@ -6,7 +6,7 @@ ghost use Rattle.std.specs.Prelude.{◌≡◌, IfOk, IfSome, Ok, true};
 ghost use Rattle.mh_told.specs.Reading.{Gives};
 ghost use Rattle.mh_try.specs.Tried as spec;
 
-use crate::tried::{Chosen, bytes_of, played, service_of};
+use crate::tried::{Chosen, Play, bytes_of, played, service_of};
 use mh_base::GroupName;
 use mh_codec::TagTable;
 use mh_find::{Within, proposal};
@@ -96,7 +96,16 @@ fn leads(
     ensures { Gives (λ leads. leads) result (spec.leads chosen.now files.now script.now tags.now) }
 {
     let played = played(alloc, tags, files, script.as_slice(), chosen)?;
-    Ok(is_led(played.tracer.machine()))
+    Ok(leads_in(played))
+}
+
+/// Whether a fault has come in this play.
+fn leads_in(played: Play) -> bool
+    ensures { result ≡ spec.is_led played.tracer.state }
+{
+    let leads = is_led(played.tracer.machine());
+    drop(played);
+    leads
 }
 
 /// Whether a fault has come.

@@ -9,7 +9,7 @@ ghost use Rattle.mh_try.specs.Tried as spec;
 
 use crate::directory::directory_of;
 use crate::naming::narrowed;
-use mh_base::{GroupName, ObjRef, Seq};
+use mh_base::{GroupName, ObjRef, Seq, both};
 use mh_codec::TagTable;
 use mh_machine::Machine;
 use mh_model::File;
@@ -72,7 +72,15 @@ fn told_of(
     ensures { Gives (λ text. text) result (spec.told_with chosen.now files.now script.now tags.now) }
 {
     let played = played(alloc, tags, files, script, chosen)?;
-    Ok(played.text)
+    Ok(text_in(played))
+}
+
+fn text_in(played: Play) -> Text
+    ensures { result ≡ played.text }
+{
+    let Play { text, tracer } = played;
+    drop(tracer);
+    text
 }
 
 /// What scripts cover of the service of these files; `tap` as test harnesses read it.
@@ -136,8 +144,17 @@ fn cover_one(
     ensures { Gives (λ covered. covered) result (spec.cover_one chosen.now files.now tags.now script.now before) }
 {
     let played = played(alloc, tags, files, script, chosen)?;
-    let covered = with_trace(before, &played.tracer)?;
+    let covered = covered_in(played, before)?;
     Ok(covered)
+}
+
+/// What was covered before, with what this play has done and entered.
+fn covered_in(played: Play, before: Covered) -> Result<Covered, AllocError>
+    ensures { IfOk result (λ covered. covered ≡ covered_by played.tracer before) }
+{
+    let covered = with_trace(before, &played.tracer);
+    drop(played);
+    covered
 }
 
 /// What was covered before, with what this trace has done and entered.
@@ -208,10 +225,24 @@ fn told(
     ensures { IfOk result (λ played. (played.text, played.tracer) ≡ spec.told contents.now commands.now tracer) }
 {
     let mut tracer = tracer;
+    let text = tell(alloc, &mut tracer, contents, commands);
+    let (text, tracer) = both(text, Ok(tracer))?;
+    Ok(Play { text, tracer })
+}
+
+/// The same with a tracer that is lent, so that no machine is dropped where memory is refused.
+fn tell(
+    alloc: Global,
+    tracer: &mut Tracer,
+    contents: &[File],
+    commands: &[Command],
+) -> Result<Text, AllocError>
+    ensures { IfOk result (λ text. (text, tracer.new) ≡ spec.told contents.now commands.now tracer.old) }
+{
     let mut text = Text::new(alloc);
     tracer.preset_all(contents, &mut text)?;
     tracer.play(commands, &mut text)?;
-    Ok(Play { text, tracer })
+    Ok(text)
 }
 
 /// The commands of a script that is played on this service.

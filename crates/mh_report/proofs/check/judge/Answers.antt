@@ -1,7 +1,5 @@
 use Rattle.mh_report.specs.declared.status.Status.TheVariants as status
-use Rattle.mh_verdict.specs.Lines.{refusal_lines}
-use Rattle.mh_report.specs.Played.{check_refused}
-use Rattle.mh_report.proofs.WrittenLemmas.{accepted_so, whole, cut, named}
+use Rattle.mh_report.proofs.WrittenLemmas.{accepted_so, whole, cut}
 use Rattle.mh_report.proofs.check.judge.Goals as goal
 
 pub returns-in-Ok-clause-written : goal.returns-in-Ok-clause-written
@@ -11,10 +9,3 @@ returns-in-Ok-clause-written g c =
 pub returns-in-Ok-clause-begun : goal.returns-in-Ok-clause-begun
 returns-in-Ok-clause-begun g c =
     cut _ _ _ c.accept.result _ status.Good (accepted_so _ _ _ c.in-Ok.ensures.same c.in-Ok.ensures.verified c.bounds.ensures.same) c.accept.ensures.cut
-
-pub returns : goal.returns
-returns g c = record {
-  written = whole _ _ _ c.refuse.result (refusal_lines c.in-Err.refusal) status.Refused (check_refused _ _ (named _ _ c.in-Err.ensures.told c.in_default.not-NoMemory)) c.refuse.ensures.report c.refuse.ensures.status;
-  begun = cut _ _ _ c.refuse.result (refusal_lines c.in-Err.refusal) status.Refused (check_refused _ _ (named _ _ c.in-Err.ensures.told c.in_default.not-NoMemory)) c.refuse.ensures.cut;
-  write = c.refuse.ensures.write;
-}
