@@ -67,7 +67,11 @@ fn judge<S: Sink>(alloc: Global, service: Service, sink: &mut S) -> Result<Statu
 }
 
 /// Says why a service is refused; nothing where that is for want of memory.
-fn answer_refusal<S: Sink>(alloc: Global, refusal: &Refusal, sink: &mut S) -> Result<Status, PlayError>
+fn answer_refusal<S: Sink>(
+    alloc: Global,
+    refusal: &Refusal,
+    sink: &mut S,
+) -> Result<Status, PlayError>
     requires { S.failures sink.old < 2 ^ 64 - 1 }
     ensures written { (s : ServiceValue) → IsTold s [] refusal.now →
         IfOk result (HasWritten (Checks (Ok s)) (S.written sink.old) (S.written sink.new)) }

@@ -4,7 +4,8 @@
 ghost use Rattle.std.specs.Prelude.{◌≡◌, IfOk, map};
 ghost use Rattle.std.specs.Option.{option_copied, option_map};
 ghost use Rattle.mh_told.specs.Reading.{Gives};
-ghost use Rattle.mh_trace.specs.Cover.{covered_by};
+ghost use Rattle.mh_trace.specs.Cover.{cover_text, covered_by};
+ghost use Rattle.mh_try.specs.Directory.{directory_of as written_in};
 ghost use Rattle.mh_try.specs.Tried as spec;
 
 use crate::directory::directory_of;
@@ -98,9 +99,22 @@ pub fn cover_of(
     let tags = table_of(alloc, bytes_of(&chosen.tags))?;
     let covered = cover_all(alloc, &tags, files, scripts, chosen, Covered::new(alloc))?;
     let service = service_of(alloc, &tags, files, chosen)?;
-    let directory = directory_of(alloc, files)?;
-    let text = covered.text(alloc, &service, directory.as_slice(), tap)?;
+    let text = cover_text(alloc, files, &service, &covered, tap)?;
     Ok(text)
+}
+
+/// The lines on what was covered of the service of these files.
+fn cover_text(
+    alloc: Global,
+    files: &[(GroupName, Vec<u8>)],
+    service: &Service,
+    covered: &Covered,
+    tap: bool,
+) -> Result<Text, AllocError>
+    ensures { IfOk result (λ text. text ≡ cover_text tap (written_in files.now) covered.now service.now) }
+{
+    let directory = directory_of(alloc, files)?;
+    covered.text(alloc, service, directory.as_slice(), tap)
 }
 
 /// The bytes that an option holds, lent.

@@ -4,8 +4,8 @@ use Rattle.mh_report.proofs.check.judge.Goals as goal
 
 pub returns-in-Ok-clause-written : goal.returns-in-Ok-clause-written
 returns-in-Ok-clause-written g c =
-    whole _ _ _ c.accept.result _ status.Good (accepted_so _ _ _ c.in-Ok.ensures.same c.in-Ok.ensures.verified c.bounds.ensures.same) c.accept.ensures.report c.accept.ensures.status
+    whole _ _ _ c.accept.result _ status.Good (accepted_so _ _ _ c.in-Ok.ensures.same c.in-Ok.ensures.verified c.bounds-bounds.ensures.same) c.accept.ensures.report c.accept.ensures.status
 
 pub returns-in-Ok-clause-begun : goal.returns-in-Ok-clause-begun
 returns-in-Ok-clause-begun g c =
-    cut _ _ _ c.accept.result _ status.Good (accepted_so _ _ _ c.in-Ok.ensures.same c.in-Ok.ensures.verified c.bounds.ensures.same) c.accept.ensures.cut
+    cut _ _ _ c.accept.result _ status.Good (accepted_so _ _ _ c.in-Ok.ensures.same c.in-Ok.ensures.verified c.bounds-bounds.ensures.same) c.accept.ensures.cut
