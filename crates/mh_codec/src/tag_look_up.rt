@@ -1,5 +1,5 @@
 //! Look-ups by a tag. Where a table says of a tag what the profile says, nothing is searched.
-ghost use Rattle.std.specs.Prelude.{◌≡◌, Some, IfSome};
+ghost use Rattle.std.specs.Prelude.{◌≡◌, Some, IfSome, option_and_then, slice_get};
 ghost use Rattle.mh_codec.specs.Tags.{class_with, attribute_with, action_with, value_kind_with};
 
 use crate::tag_table::TagTable;
@@ -29,7 +29,7 @@ impl TagTable {
         ensures { IfSome result (λ c. Some c ≡ class_with self.now tag) }
     {
         self.is_table();
-        let class = *CLASSES.get(usize::from(tag))?;
+        let class = at_place(&CLASSES, Some(tag))?;
         if self.class_tag(class) == tag {
             Some(class)
         } else {
@@ -56,7 +56,7 @@ impl TagTable {
         ensures { IfSome result (λ a. Some a ≡ attribute_with self.now tag) }
     {
         self.is_table();
-        let attribute = *ATTRIBUTES.get(usize::from(tag.checked_sub(1)?))?;
+        let attribute = at_place(&ATTRIBUTES, tag.checked_sub(1))?;
         if self.attribute_tag(attribute) == tag {
             Some(attribute)
         } else {
@@ -83,7 +83,7 @@ impl TagTable {
         ensures { IfSome result (λ a. Some a ≡ action_with self.now tag) }
     {
         self.is_table();
-        let action = *ACTIONS.get(usize::from(tag.checked_sub(100)?))?;
+        let action = at_place(&ACTIONS, tag.checked_sub(100))?;
         if self.action_tag(action) == tag {
             Some(action)
         } else {
@@ -101,4 +101,11 @@ impl TagTable {
             .copied()
             .find(|kind| self.value_tag(*kind) == tag)
     }
+}
+
+/// What stands at this place of a table, which is lent: it is dear to prove beside a constant.
+fn at_place<T: Copy>(table: &[T], place: Option<u16>) -> Option<T>
+    ensures { result ≡ option_and_then (slice_get table.now) place }
+{
+    table.get(usize::from(place?)).copied()
 }

@@ -4,4 +4,4 @@ use Rattle.mh_codec.proofs.tag_table.TagTable.likely_action.Goals as goal
 
 pub returns-then-action_tag-tag : goal.returns-then-action_tag-tag
 returns-then-action_tag-tag c =
-    action_given c.args.self.now c.is_table.ensures c.in_ok-action.field-0.now c.args.tag (sym c.action_tag.ensures ∙ c.if-action_tag-tag.true)
+    action_given c.args.self.now c.is_table.ensures c.in_ok-action.action c.args.tag (sym c.action_tag.ensures ∙ c.if-action_tag-tag.true)

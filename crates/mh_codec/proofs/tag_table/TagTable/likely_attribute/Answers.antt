@@ -4,4 +4,4 @@ use Rattle.mh_codec.proofs.tag_table.TagTable.likely_attribute.Goals as goal
 
 pub returns-then-attribute_tag-tag : goal.returns-then-attribute_tag-tag
 returns-then-attribute_tag-tag c =
-    attribute_given c.args.self.now c.is_table.ensures c.in_ok-attribute.field-0.now c.args.tag (sym c.attribute_tag.ensures ∙ c.if-attribute_tag-tag.true)
+    attribute_given c.args.self.now c.is_table.ensures c.in_ok-attribute.attribute c.args.tag (sym c.attribute_tag.ensures ∙ c.if-attribute_tag-tag.true)
