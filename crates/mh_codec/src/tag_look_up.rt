@@ -103,7 +103,7 @@ impl TagTable {
     }
 }
 
-/// What stands at this place of a table, which is lent: it is dear to prove beside a constant.
+/// What stands at this place of the table. It is lent the table, since proofs beside a constant array are dear.
 fn at_place<T: Copy>(table: &[T], place: Option<u16>) -> Option<T>
     ensures { result ≡ option_and_then (slice_get table.now) place }
 {
