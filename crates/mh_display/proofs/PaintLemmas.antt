@@ -1,7 +1,9 @@
 -- What is painted into cells, and into those of windows.
-use Rattle.std.specs.Prelude.{◌≡◌, ◌≢◌, ℕ, ◌+◌, ◌*◌, ◌<◌, ◌≤◌, ◌==◌, Bool, true, false, not, List, [], replicate, ◌&&◌, if◌then◌else◌, Option, None, slice_index, slice_set, ℤ, pos, ◌-ℤ◌, refl}
+use Rattle.std.specs.Prelude.{◌≡◌, ◌≢◌, ℕ, ◌+◌, ◌*◌, ◌<◌, ◌≤◌, ◌==◌, Bool, true, false, not, List, [], ◌∷◌, replicate, ◌&&◌, ◌||◌, if◌then◌else◌, Option, Some, None, slice_index, slice_set, ℤ, pos, negsuc, ◌-ℤ◌, ◌-◌, refl}
+use Rattle.std.specs.Option.{is_some}
 use Rattle.std.proofs.Common.{ap, ◌∙◌, sym, arith, subst}
 use Rattle.std.proofs.lemmas.List.{get_or-set_same, get_or-set_other}
+use Rattle.std.proofs.lemmas.Option.{slice_get_past}
 use Rattle.mh_base.specs.declared.area.Area.{Area}
 use Rattle.mh_model.specs.declared.picture.drawing.Stroke.{Stroke}
 use Rattle.mh_model.specs.declared.picture.line.Line.{Line}
@@ -10,16 +12,18 @@ use Rattle.mh_model.specs.Drawn.{goes_through}
 use Rattle.mh_model.specs.Layout.{character_at, character_in, member_at}
 use Rattle.mh_model.specs.Picture.{cell_of}
 use Rattle.mh_model.specs.Planes.{Planes, with_cell}
+use Rattle.mh_model.specs.Step.{is_empty}
 use Rattle.mh_model.specs.Looks.{Paint, marked, nothing, text_paint}
 use Rattle.mh_display.specs.declared.marked.Marked.{Marked}
 use Rattle.mh_display.specs.declared.panel.Panel.{Panel}
 use Rattle.mh_display.specs.declared.texts.Ink.{Ink}
 use Rattle.mh_display.specs.declared.window.Window.{Window}
-use Rattle.mh_display.specs.Painting.{IsComplete, IsSet, IsPainted, IsPaintedIn, marked_at, put, seen, settled}
-use Rattle.mh_display.specs.Panels.{area_of_frame, inner_paint, panel_paint}
+use Rattle.mh_display.specs.Painting.{IsBetween, IsComplete, IsSet, IsPainted, IsPaintedIn, marked_at, put, seen, settled}
+use Rattle.mh_display.specs.Panels.{area_of_frame, inner_paint, is_clear, panel_paint}
 use Rattle.mh_display.specs.Strokes.{stroke_paint}
 use Rattle.mh_display.specs.Surface.{Surface, is_in}
 use Rattle.mh_display.specs.Texts.{letter_paint}
+use Rattle.mh_display.specs.Texts.{is_clear as text_is_clear}
 use Rattle.mh_display.specs.Windows.{has, IsOf, IsMeet}
 use Rattle.mh_display.proofs.CellLemmas.{put_nothing, row_of_cell, column_of_cell}
 
@@ -77,6 +81,56 @@ whole_of g inner a own old new is_own on off done = record { each = λ c inside.
     by : (c : ℕ) → c < 2160 → (b : Bool) → has own c ≡ b → (if b then put (inner c) (marked_at old c) else marked_at old c) ≡ put (g c) (marked_at old c)
     by c inside true e = ap (λ (q : Paint). put q (marked_at old c)) (on c (sym (is_own.covered c inside) ∙ e))
     by c inside false e = sym (put_nothing (marked_at old c)) ∙ ap (λ (q : Paint). put q (marked_at old c)) (off c (sym (is_own.covered c inside) ∙ e))
+
+-- What paints nothing leaves all cells as they are.
+
+nothing_put : (g : ℕ → Paint) (s : Surface) (c : ℕ) → g c ≡ nothing → marked_at s c ≡ put (g c) (marked_at s c)
+nothing_put g s c none = sym (put_nothing (marked_at s c)) ∙ ap (λ (q : Paint). put q (marked_at s c)) (sym none)
+
+nothing_in : (g : ℕ → Paint) (w : Window) (s : Surface) → ((c : ℕ) → g c ≡ nothing) → IsPaintedIn g w s s
+nothing_in g w s none = record { each = λ c inside. by c (has w c) }
+  where
+    by : (c : ℕ) (b : Bool) → marked_at s c ≡ (if b then put (g c) (marked_at s c) else marked_at s c)
+    by c true = nothing_put g s c (none c)
+    by c false = refl
+
+clear_panel : (p : Panel) → is_clear p ≡ true → (c : ℕ) → panel_paint p c ≡ nothing
+clear_panel p clear c = by p.has_line p.line p.fill (covers (area_of_frame p.frame) (x_of c) (y_of c)) (is_edge (area_of_frame p.frame) (x_of c) (y_of c)) clear
+  where
+    by : (lined : Bool) (line fill : Option ℕ) (on edge : Bool) → (not (is_some fill) && not (lined && is_some line)) ≡ true
+        → record { back = if on then (if lined && edge then line else fill) else None; mark = None } ≡ nothing
+    by lined line (Some colour) on edge e = absurd cc
+    by true (Some colour) None on edge e = absurd cc
+    by lined line None false edge e = refl
+    by false line None true edge e = refl
+    by true None None true true e = refl
+    by true None None true false e = refl
+
+pub clear_in : (p : Panel) (w : Window) (s : Surface) → is_clear p ≡ true → IsPaintedIn (panel_paint p) w s s
+clear_in p w s clear = nothing_in (panel_paint p) w s (clear_panel p clear)
+
+unmarked : (colour : Option ℕ) → marked colour None ≡ None
+unmarked None = refl
+unmarked (Some colour) = refl
+
+no_line : (z : ℤ) → member_at {A = Line} [] z ≡ None
+no_line (pos n) = slice_get_past [] n (omega arith)
+no_line (negsuc n) = refl
+
+clear_text : (a : Area) (ink : Ink) (lines : List Line) → text_is_clear ink lines ≡ true → (c : ℕ) → text_paint a ink.background ink.colour lines c ≡ nothing
+clear_text a ink lines clear c = by (covers a (x_of c) (y_of c)) ink.background ink.colour lines clear
+  where
+    by : (on : Bool) (background colour : Option ℕ) (ls : List Line) → (not (is_some background) && (not (is_some colour) || is_empty ls)) ≡ true
+        → (if on then record { back = background; mark = marked colour (character_at ls a (column_of c) (row_of c)) } else nothing) ≡ nothing
+    by on (Some b) colour ls e = absurd cc
+    by false None colour ls e = refl
+    by true None None ls e = refl
+    by true None (Some k) [] e =
+        ap (λ (l : Option Line). record { back = None; mark = marked (Some k) (character_in l (column_of c -ℤ first_column a)) }) (no_line (row_of c -ℤ first_row a))
+    by true None (Some k) (l ∷ ls) e = absurd cc
+
+pub clear_painted : (a : Area) (ink : Ink) (lines : List Line) (s : Surface) → text_is_clear ink lines ≡ true → IsPainted (text_paint a ink.background ink.colour lines) s s
+clear_painted a ink lines s clear = record { each = λ c inside. nothing_put (text_paint a ink.background ink.colour lines) s c (clear_text a ink lines clear c) }
 
 pub text_in_box : (a b : Area) (ink : Ink) (lines : List Line) (own : Window) (old new : Surface) → b ≡ a → IsOf b own
     → IsPaintedIn (letter_paint ink a lines) own old new → IsPainted (text_paint a ink.background ink.colour lines) old new

@@ -1,5 +1,6 @@
 -- Panels: boxes with an edge and an inside.
-use Rattle.std.specs.Prelude.{ℕ, ◌^◌, ◌&&◌, if◌then◌else◌, Option, None, ℤ, pos, ◌≤ℤ◌}
+use Rattle.std.specs.Prelude.{ℕ, ◌^◌, Bool, not, ◌&&◌, if◌then◌else◌, Option, None, ℤ, pos, ◌≤ℤ◌}
+use Rattle.std.specs.Option.{is_some}
 use Rattle.mh_base.specs.declared.area.Area.{Area}
 use Rattle.mh_model.specs.Boxes.{IsNear, box_back, is_edge, x_of, y_of}
 use Rattle.mh_model.specs.Looks.{Paint}
@@ -25,6 +26,10 @@ pub record IsOnScreen (unit : ℤ) : Type 0 where
 -- what a panel paints into a cell
 abbrev pub panel_paint : Panel → ℕ → Paint
 panel_paint p c = record { back = box_back (area_of_frame p.frame) p.has_line p.line p.fill (x_of c) (y_of c); mark = None }
+
+-- it has no colour for its inside, and none for its edge if that has a line
+abbrev pub is_clear : Panel → Bool
+is_clear p = not (is_some p.fill) && not (p.has_line && is_some p.line)
 
 -- the colour at these units of a panel that covers them
 abbrev pub colour_at : Panel → ℤ → ℤ → Option ℕ

@@ -1,6 +1,6 @@
 //! `Panel`: a box with an edge and an inside, as a rectangle is, drawn or not, and what lies behind drawings.
 ghost use Rattle.std.specs.Prelude.{◌≡◌, ◌<◌, ◌+◌, ◌*◌};
-ghost use Rattle.mh_display.specs.Panels.{IsFrame, IsOnScreen, colour_at, inner_paint};
+ghost use Rattle.mh_display.specs.Panels.{IsFrame, IsOnScreen, colour_at, inner_paint, is_clear};
 
 use crate::frame::{Frame, is_edge};
 
@@ -11,6 +11,13 @@ pub struct Panel {
     pub has_line: bool,
     pub line: Option<u32>,
     pub fill: Option<u32>,
+}
+
+/// Whether the panel paints nothing: it has no colour for its inside, and none for its edge if that has a line.
+pub(crate) fn is_clear(panel: &Panel) -> bool
+    ensures { result ≡ is_clear panel.now }
+{
+    panel.fill.is_none() && !(panel.has_line && panel.line.is_some())
 }
 
 /// The colour that a panel gives to the cell in this row and column, which it covers.

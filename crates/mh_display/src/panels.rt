@@ -1,10 +1,11 @@
-//! Panels are painted row by row, into the cells alone that they cover and that are stale.
+//! Panels are painted row by row, into the cells alone that they cover and that are stale. One that paints nothing is passed
+//! over at once.
 ghost use Rattle.std.specs.Prelude.{◌≡◌, ◌<◌, ◌≤◌, ◌+◌, ◌*◌};
 ghost use Rattle.mh_display.specs.Painting.{IsSet, IsBetween, IsPaintedIn, marked_at, put};
 ghost use Rattle.mh_display.specs.Panels.{IsFrame, inner_paint, panel_paint};
 
 use crate::cells::{lowest, without};
-use crate::panel::{Panel, colour_of};
+use crate::panel::{Panel, colour_of, is_clear};
 use crate::screen::Screen;
 use crate::window::Window;
 
@@ -13,6 +14,9 @@ pub(crate) fn paint_panel(screen: &mut Screen, panel: &Panel, window: &Window)
     requires { IsFrame panel.now.frame }
     ensures { IsPaintedIn (panel_paint panel.now) window.now screen.old screen.new }
 {
+    if is_clear(panel) {
+        return;
+    }
     let own = Window::of(&panel.frame);
     paint_rows(screen, panel, &own.meet(window));
 }

@@ -1,11 +1,12 @@
-//! Texts are painted row by row; the line of a row is found once.
+//! Texts are painted row by row; the line of a row is found once. A text, or a row, that paints nothing is passed over at
+//! once.
 ghost use Rattle.std.specs.Prelude.{◌≡◌, ◌<◌, ◌≤◌, ◌+◌, ◌*◌, ◌^◌, ◌-ℤ◌, pos};
 ghost use Rattle.std.specs.Option.{option_copied};
 ghost use Rattle.mh_model.specs.Boxes.{IsNear, first_column, first_row};
 ghost use Rattle.mh_model.specs.Layout.{character_in, member_at};
 ghost use Rattle.mh_model.specs.Looks.{marked, text_paint};
 ghost use Rattle.mh_display.specs.Painting.{IsBetween, IsPainted, IsPaintedIn, IsSet, marked_at, put};
-ghost use Rattle.mh_display.specs.Texts.{letter_paint};
+ghost use Rattle.mh_display.specs.Texts.{is_clear, letter_paint};
 
 use crate::cells::{lowest, without};
 use crate::characters::{character_in, line_at};
@@ -27,8 +28,18 @@ pub struct Ink {
 pub(crate) fn paint_text(screen: &mut Screen, area: &Area, ink: Ink, lines: &[Line])
     ensures { IsPainted (text_paint area.now ink.background ink.colour lines.now) screen.old screen.new }
 {
+    if is_clear(ink, lines) {
+        return;
+    }
     let own = Window::of(&Frame::of(area));
     paint_rows(screen, area, ink, lines, &own);
+}
+
+/// Whether a text with these lines paints nothing: there is no colour behind its characters, and none for them or no line.
+fn is_clear(ink: Ink, lines: &[Line]) -> bool
+    ensures { result ≡ is_clear ink lines.now }
+{
+    ink.background.is_none() && (ink.colour.is_none() || lines.is_empty())
 }
 
 /// Paints a text into the cells of the window, which it covers.
@@ -57,6 +68,9 @@ fn paint_row(
     requires line { option_copied line ≡ member_at lines.now (pos row -ℤ first_row area.now) }
     ensures { IsBetween (λ c. put (letter_paint ink area.now lines.now c)) (marked_at screen.old) (marked_at screen.new) (60 * row + window.now.left) (60 * row + window.now.right) }
 {
+    if ink.background.is_none() && line.is_none() {
+        return;
+    }
     let _ = lines.len();
     let first = first_column(area);
     let mut left = screen.stale_in(row, window.left, window.right);
