@@ -8,14 +8,11 @@ ghost use Rattle.mh_carousel.specs.Ahead.{brings, file_at, has, is_for};
 ghost use Rattle.mh_carousel.specs.Ahead.{number_with};
 ghost use Rattle.mh_carousel.specs.Carried.{files_of};
 
-use crate::files::has;
+use crate::files::{MOST_FILES, has};
 use indexmap::IndexMap;
 use mh_base::{GroupName, Octets};
 use mh_events::Queue;
 use mh_model::{File, Input, Waiting};
-
-/// The most files.
-const MOST_FILES: usize = 1024;
 
 /// Whether there would be one file too many when this one comes behind all that waits.
 pub(crate) fn is_one_too_many(

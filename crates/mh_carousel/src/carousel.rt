@@ -1,14 +1,16 @@
 //! `Carousel`: the content files that are there, and who waits for which.
 //!
 //! What may want memory is `arrive`, `wait` and what makes room alone.
-ghost use Rattle.std.specs.Prelude.{◌≡◌, ◌≤◌, [], Some, OnOk, OnErr, filter};
+ghost use Rattle.std.specs.Prelude.{◌≡◌, ◌≤◌, [], Some, None, OnOk, OnErr, IfErr, IsErrOf, IsErrAnd, MatchOption, filter};
 ghost use Rattle.std.specs.List.{list_any};
 ghost use Rattle.std.specs.Option.{option_copied};
 ghost use Rattle.std.specs.Str.{bytes_eq};
 ghost use Rattle.mh_model.specs.Files.{arrived, awaited, content};
 ghost use Rattle.mh_model.specs.Files.{forgotten, is_too_large, is_too_many, waits_for, with_file};
 ghost use Rattle.mh_model.specs.Step.{files_ahead};
+ghost use Rattle.mh_carousel.specs.Arrival.{arrival_refusal};
 
+use crate::refusal::{ArrivalError, RefusedArrival};
 use crate::{ahead, files, waits};
 use indexmap::IndexMap;
 use mh_base::{GroupName, ObjRef, Octets};
@@ -91,14 +93,44 @@ impl Carousel {
         files::put_file(&mut self.files, file);
     }
 
-    /// Makes room for the file, and puts it there. Where memory is refused nothing changes.
-    pub fn arrive(&mut self, file: File) -> Result<(), AllocError>
+    /// Puts the file in the place of an older one of its name, or at the end. One that is too large, or
+    /// that is one too many, is handed back, and so is one for which memory is refused; nothing changes then.
+    pub fn arrive(&mut self, file: File) -> Result<(), RefusedArrival>
         ensures files { OnOk result (self.new.files ≡ with_file file self.old.files) }
         ensures waits { self.new.waits ≡ self.old.waits }
+        ensures accepted { OnOk result (arrival_refusal file self.old.files ≡ None) }
+        ensures back { IfErr result (λ refused. refused.file ≡ file) }
         ensures kept { OnErr result (self.new.files ≡ self.old.files) }
+        ensures refused { MatchOption (arrival_refusal file self.old.files)
+            (IfErr result (λ refused. refused.why ≡ ArrivalError.NoMemory))
+            (λ why. IsErrAnd result (λ refused. refused.why ≡ why)) }
     {
+        match self.admit(&file) {
+            Ok(()) => {
+                self.put(file);
+                Ok(())
+            }
+            Err(why) => Err(RefusedArrival { why, file }),
+        }
+    }
+
+    /// Makes room for the file, if it may be there.
+    fn admit(&mut self, file: &File) -> Result<(), ArrivalError>
+        ensures files { self.new.files ≡ self.old.files }
+        ensures waits { self.new.waits ≡ self.old.waits }
+        ensures room { OnOk result (1 ≤ self.new.file_room) }
+        ensures accepted { OnOk result (arrival_refusal file.now self.old.files ≡ None) }
+        ensures refused { MatchOption (arrival_refusal file.now self.old.files)
+            (IfErr result (λ why. why ≡ ArrivalError.NoMemory))
+            (λ why. IsErrOf result why) }
+    {
+        if is_large(file) {
+            return Err(ArrivalError::TooLarge);
+        }
+        if files::is_beyond(&self.files, file) {
+            return Err(ArrivalError::TooMany);
+        }
         self.reserve_file()?;
-        self.put(file);
         Ok(())
     }
 

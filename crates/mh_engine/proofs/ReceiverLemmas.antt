@@ -11,7 +11,7 @@ use Rattle.mh_model.specs.State.{State}
 use Rattle.mh_model.specs.Step.{is_empty, is_settled, step}
 use Rattle.mh_model.specs.Limits.{most_steps}
 use Rattle.mh_laws.proofs.ReceiverLemmas.{uncalled_step}
-use Rattle.mh_engine.specs.Answer.{is_ready}
+use Rattle.mh_machine.specs.Refusal.{is_ready}
 use Rattle.mh_engine.specs.Told.{IsTold}
 
 -- what was said of a call

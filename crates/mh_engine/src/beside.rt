@@ -4,7 +4,7 @@ ghost use Rattle.mh_model.specs.Stuck.{front_fault};
 ghost use Rattle.mh_model.specs.State.{begun};
 ghost use Rattle.mh_model.specs.Receiver.{call_next, told};
 ghost use Rattle.mh_layers.specs.Known.{top};
-ghost use Rattle.mh_engine.specs.Answer.{is_ready};
+ghost use Rattle.mh_machine.specs.Refusal.{is_ready};
 ghost use Rattle.mh_engine.specs.Play.{unbounded, with_more};
 
 use crate::engine::Engine;

@@ -11,13 +11,15 @@ ghost use Rattle.mh_layers.specs.Known.{top};
 ghost use Rattle.mh_model.specs.Picture.{shown};
 ghost use Rattle.mh_machine.specs.Rest.{answer_of, is_faulted, rest_of};
 ghost use Rattle.mh_machine.specs.Working.{IsPartly};
-ghost use Rattle.mh_engine.specs.Answer.{refusal_for, start_refusal, step_refusal, post_refusal, preset_refusal};
+ghost use Rattle.mh_machine.specs.Refusal.{refusal_for, step_refusal, post_refusal, preset_refusal};
+ghost use Rattle.mh_engine.specs.Answer.{start_refusal};
 ghost use Rattle.mh_engine.specs.Play.{unbounded, with_more};
 
-use crate::passing::{post_or_back, preset_copy, refuse, refuse_file};
-use crate::refusal::{Refused, RefusedFile, RefusedWhy, StartError, StepError, Unaccepted};
+use crate::refusal::{StartError, Unaccepted};
 use mh_layers::Bounds;
-use mh_machine::{Free, Judged, Machine, Rest, Stepped, Unstarted};
+use mh_machine::{
+    Free, Judged, Machine, Refused, RefusedFile, RefusedWhy, Rest, StepError, Stepped, Unstarted,
+};
 use mh_model::{Fault, File, Input, Picture, Signature};
 use mh_service::Service;
 use mh_verify::Accepted;
@@ -108,13 +110,7 @@ impl Engine {
         ensures kept { OnErr result (self.new ≡ self.old) }
         ensures refused { MatchOption (preset_refusal file self.old.state) (IfErr result (λ refused. refused.why ≡ RefusedWhy.NoMemory)) (λ why. IsErrAnd result (λ refused. refused.why ≡ why)) }
     {
-        if let Some(obstacle) = self.machine.preset_obstacle(&file) {
-            return refuse_file(RefusedWhy::for_obstacle(obstacle), file);
-        }
-        match preset_copy(&mut self.machine, &file) {
-            Ok(()) => Ok(()),
-            Err(_) => refuse_file(RefusedWhy::NoMemory, file),
-        }
+        self.machine.preset(file)
     }
 
     /// Adds an input at the end of the queue, and what it is bound to to the budget. A refused one is handed
@@ -128,11 +124,8 @@ impl Engine {
         ensures kept { OnErr result (self.new ≡ self.old) }
         ensures refused { MatchOption (post_refusal input self.old.state) (IfErr result (λ refused. refused.why ≡ RefusedWhy.NoMemory)) (λ why. IsErrAnd result (λ refused. refused.why ≡ why)) }
     {
-        if let Some(obstacle) = self.machine.obstacle(&input) {
-            return refuse(RefusedWhy::for_obstacle(obstacle), input);
-        }
         let budget = self.budget.saturating_add(self.bounds.of_input(&input));
-        match post_or_back(&mut self.machine, input) {
+        match self.machine.post(input) {
             Ok(()) => {
                 self.budget = budget;
                 Ok(())
@@ -154,18 +147,9 @@ impl Engine {
         ensures refused { MatchOption (step_refusal self.old.state) (IfErr result (λ why. (why ≡ StepError.NoMemory) × (is_settled self.old.state ≡ false))) (λ why. IsErrOf result why) }
         ensures within { self.new.state.taken ≤ self.new.budget }
     {
-        let taken = self.machine.taken();
-        match self.machine.rest() {
-            Rest::Ended => return Ok(Stepped::Ended),
-            Rest::Idle => return Ok(Stepped::Idle),
-            Rest::More => {}
-        }
-        if taken == u64::MAX {
-            return Err(StepError::CountFull);
-        }
-        let answer = step_by(&mut self.machine, self.accepted)?;
+        let answer = step_by(&mut self.machine, self.accepted);
         self.vouch();
-        Ok(answer)
+        answer
     }
 
     /// Makes so many steps, or as many as there is something to do and as are counted; the picture is
@@ -247,12 +231,14 @@ impl Engine {
 }
 
 /// One step of a machine. For a service that was accepted nothing is asked of the first item.
-fn step_by(machine: &mut Machine, accepted: bool) -> Result<Stepped, AllocError>
-    requires room { machine.old.taken + 1 < 2 ^ 64 }
+fn step_by(machine: &mut Machine, accepted: bool) -> Result<Stepped, StepError>
     requires free { accepted ≡ true → front_fault machine.old ≡ None }
     ensures step { OnOk result (machine.new ≡ step machine.old) }
     ensures answer { IfOk result (λ answer. answer ≡ answer_of machine.old) }
     ensures kept { OnErr result (machine.new ≡ machine.old) }
+    ensures room { OnOk result (machine.old.taken ≡ most_steps → is_settled machine.old ≡ true) }
+    ensures full { IsErrOf result StepError.CountFull → (machine.old.taken ≡ most_steps) × (is_settled machine.old ≡ false) }
+    ensures refused { MatchOption (step_refusal machine.old) (IfErr result (λ why. (why ≡ StepError.NoMemory) × (is_settled machine.old ≡ false))) (λ why. IsErrOf result why) }
 {
     if accepted {
         machine.step::<Free>()

@@ -12,13 +12,13 @@ ghost use Rattle.mh_resident.specs.Coming.{MayCome};
 ghost use Rattle.mh_machine.specs.Rest.{answer_of, is_faulted};
 ghost use Rattle.mh_laws.specs.Budget.{bound_of};
 ghost use Rattle.mh_layers.specs.Known.{top};
-ghost use Rattle.mh_engine.specs.Answer.{is_ready, post_refusal, preset_refusal, step_refusal};
+ghost use Rattle.mh_machine.specs.Refusal.{is_ready, post_refusal, preset_refusal, step_refusal};
 ghost use Rattle.mh_engine.specs.Play.{unbounded, with_more};
 ghost use Rattle.mh_engine.specs.Told.{IsTold};
 
 use crate::engine::Engine;
-use crate::refusal::{Refused, RefusedFile, RefusedWhy, StartError, StepError, Unaccepted};
-use mh_machine::Stepped;
+use crate::refusal::{StartError, Unaccepted};
+use mh_machine::{Refused, RefusedFile, RefusedWhy, StepError, Stepped};
 use mh_model::{File, Input, Outcome, Signature};
 use mh_resident::{Resident, call_program, same_signatures, signatures_of};
 use mh_service::Service;

@@ -8,8 +8,9 @@ ghost use Rattle.mh_engine.specs.Answer.{is_counted, is_left};
 ghost use Rattle.mh_engine.specs.Beside.{IsCountedRun, IsPlayed};
 
 use crate::receiver::Receiver;
-use crate::refusal::{RunEnd, StepError};
+use crate::refusal::RunEnd;
 use crate::runs::post_copy_or_pass;
+use mh_machine::StepError;
 use mh_model::Move;
 use mh_resident::Resident;
 

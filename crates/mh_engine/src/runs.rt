@@ -7,7 +7,8 @@ ghost use Rattle.mh_engine.specs.Answer.{is_left, is_counted, are_counted};
 ghost use Rattle.mh_engine.specs.Play.{budget_after, budget_behind};
 
 use crate::Engine;
-use crate::refusal::{Refused, RefusedWhy, RunEnd, StepError};
+use crate::refusal::RunEnd;
+use mh_machine::{Refused, RefusedWhy, StepError};
 use mh_model::{Input, Move};
 
 /// One move of a run. A post that is refused for what the state is is passed over.

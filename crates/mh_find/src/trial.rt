@@ -3,7 +3,7 @@ use crate::links::hears_timers;
 use crate::script_text::{Running, script_text};
 use crate::stimulus::{Stimulus, input_of};
 use crate::timing::Timing;
-use mh_machine::{Judged, Machine, Rest};
+use mh_machine::{Judged, Machine, RefusedWhy, Rest, StepError};
 use mh_model::{File, Input, Timer};
 use mh_script::RUN_LIMIT;
 use mh_service::Service;
@@ -137,16 +137,24 @@ impl Trial {
 
 /// Puts a copy of the content file there, if it may be there.
 fn preset_to(machine: &mut Machine, file: &File) -> Result<(), AllocError> {
-    match machine.preset_obstacle(file) {
-        Some(_) => Ok(()),
-        None => machine.preset(file.clone()?),
+    match machine.preset(file.clone()?) {
+        Ok(()) => Ok(()),
+        Err(refused) => pass_over(refused.why),
     }
 }
 
 fn post_to(machine: &mut Machine, input: Input) -> Result<(), AllocError> {
-    match machine.obstacle(&input) {
-        Some(_) => Ok(()),
-        None => machine.post(input),
+    match machine.post(input) {
+        Ok(()) => Ok(()),
+        Err(refused) => pass_over(refused.why),
+    }
+}
+
+/// What is refused for what the machine is is passed over; want of memory is not.
+fn pass_over(why: RefusedWhy) -> Result<(), AllocError> {
+    match why {
+        RefusedWhy::NoMemory => Err(AllocError),
+        _ => Ok(()),
     }
 }
 
@@ -156,9 +164,9 @@ fn advance(machine: &mut Machine, most: u32) -> Result<(), AllocError> {
 
 /// Makes a step, if it can be counted. Whether it did.
 fn step_once(machine: &mut Machine) -> Result<bool, AllocError> {
-    if machine.taken() == u64::MAX {
-        return Ok(false);
+    match machine.step::<Judged>() {
+        Ok(_) => Ok(true),
+        Err(StepError::NoMemory) => Err(AllocError),
+        Err(StepError::CountFull) => Ok(false),
     }
-    machine.step::<Judged>()?;
-    Ok(true)
 }

@@ -9,3 +9,4 @@ pub mod ByClass
 pub mod Sums
 pub mod Tests
 pub mod Turns
+pub mod Refusal

@@ -1,16 +1,20 @@
 //! `Machine`: the state of the object machine, with the picture that it shows.
-ghost use Rattle.std.specs.Prelude.{◌≡◌, ◌+◌, ◌<◌, ◌^◌, map, false, [], None, IfOk, IfErr, OnOk, OnErr};
+ghost use Rattle.std.specs.Prelude.{◌≡◌, ◌+◌, ◌<◌, ◌^◌, map, true, false, [], None, Some, IfOk, IfErr, OnOk, OnErr, IsErrOf, IsErrAnd, MatchOption};
+ghost use Rattle.mh_model.specs.declared.input.Obstacle.{Obstacle};
+ghost use Rattle.mh_model.specs.Limits.{most_steps};
 ghost use Rattle.mh_model.specs.Stuck.{front_fault};
 ghost use Rattle.mh_model.specs.Picture.{shown};
 ghost use Rattle.mh_model.specs.Receiver.{call_next, told};
 ghost use Rattle.mh_model.specs.State.{begun};
 ghost use Rattle.mh_model.specs.Step.{advanced, posted, step, obstacle, preset, preset_obstacle, is_settled};
 ghost use Rattle.mh_machine.specs.Judging.{AreAllowed};
+ghost use Rattle.mh_machine.specs.Refusal.{post_refusal, preset_refusal, refusal_for, step_refusal};
 ghost use Rattle.mh_machine.specs.Rest.{answer_of, rest_of};
 ghost use Rattle.mh_machine.specs.Working.{IsPartly};
 
+use crate::passing::refuse;
 use crate::works::Works;
-use crate::{Judging, Rest, Stepped, Unstarted};
+use crate::{Judging, Refused, RefusedFile, RefusedWhy, Rest, StepError, Stepped, Unstarted};
 use mh_model::{Call, Fault, File, Input, Obstacle, Outcome, Picture};
 use mh_resident::Resident;
 use mh_service::Service;
@@ -60,18 +64,13 @@ impl Machine {
         Ok(Machine { works })
     }
 
-    /// Why a file cannot be there before the first move, if it cannot.
-    pub fn preset_obstacle(&self, file: &File) -> Option<Obstacle>
-        ensures { result ≡ preset_obstacle file.now self.now }
-    {
-        self.works.preset_obstacle(file)
-    }
-
-    /// A file is there before the first move.
-    pub fn preset(&mut self, file: File) -> Result<(), AllocError>
-        requires { preset_obstacle file self.old ≡ None }
+    /// A file is there before the first move. A refused one is handed back, and nothing changes.
+    pub fn preset(&mut self, file: File) -> Result<(), RefusedFile>
         ensures preset { OnOk result (self.new ≡ preset file self.old) }
+        ensures accepted { OnOk result (preset_obstacle file self.old ≡ None) }
+        ensures back { IfErr result (λ refused. refused.file ≡ file) }
         ensures kept { OnErr result (self.new ≡ self.old) }
+        ensures refused { MatchOption (preset_refusal file self.old) (IfErr result (λ refused. refused.why ≡ RefusedWhy.NoMemory)) (λ why. IsErrAnd result (λ refused. refused.why ≡ why)) }
     {
         self.works.preset(file)
     }
@@ -83,13 +82,19 @@ impl Machine {
         self.works.obstacle(input)
     }
 
-    /// Adds an input at the end of the queue.
-    pub fn post(&mut self, input: Input) -> Result<(), AllocError>
-        requires { obstacle input self.old ≡ None }
+    /// Adds an input at the end of the queue. A refused one is handed back, and nothing changes.
+    pub fn post(&mut self, input: Input) -> Result<(), Refused>
         ensures posted { OnOk result (self.new ≡ posted input self.old) }
+        ensures accepted { OnOk result (obstacle input self.old ≡ None) }
+        ensures barred { IfErr result (λ refused. (o : Obstacle) → refused.why ≡ refusal_for o → obstacle input self.old ≡ Some o) }
+        ensures back { IfErr result (λ refused. refused.input ≡ input) }
         ensures kept { OnErr result (self.new ≡ self.old) }
+        ensures refused { MatchOption (post_refusal input self.old) (IfErr result (λ refused. refused.why ≡ RefusedWhy.NoMemory)) (λ why. IsErrAnd result (λ refused. refused.why ≡ why)) }
     {
-        self.works.post(input)
+        if let Some(obstacle) = self.works.obstacle(&input) {
+            return refuse(RefusedWhy::for_obstacle(obstacle), input);
+        }
+        self.works.post_or_back(input)
     }
 
     /// Which of these programs of the receiver the next step calls, if it calls one, and with what.
@@ -109,8 +114,30 @@ impl Machine {
     }
 
     /// One step: the first item of the work list, or the first that waits where there is no work. Where
-    /// memory is refused, everything stays as it was.
-    pub fn step<J: Judging>(&mut self) -> Result<Stepped, AllocError>
+    /// memory is refused, or the count of steps is full, everything stays as it was.
+    pub fn step<J: Judging>(&mut self) -> Result<Stepped, StepError>
+        requires allowed { J.allows (front_fault self.old) }
+        ensures step { OnOk result (self.new ≡ step self.old) }
+        ensures answer { IfOk result (λ a. a ≡ answer_of self.old) }
+        ensures kept { OnErr result (self.new ≡ self.old) }
+        ensures room { OnOk result (self.old.taken ≡ most_steps → is_settled self.old ≡ true) }
+        ensures full { IsErrOf result StepError.CountFull → (self.old.taken ≡ most_steps) × (is_settled self.old ≡ false) }
+        ensures refused { MatchOption (step_refusal self.old) (IfErr result (λ why. (why ≡ StepError.NoMemory) × (is_settled self.old ≡ false))) (λ why. IsErrOf result why) }
+    {
+        match self.rest() {
+            Rest::Ended => return Ok(Stepped::Ended),
+            Rest::Idle => return Ok(Stepped::Idle),
+            Rest::More => {}
+        }
+        if self.taken() == u64::MAX {
+            return Err(StepError::CountFull);
+        }
+        let answer = self.step_counted::<J>()?;
+        Ok(answer)
+    }
+
+    /// One step, which is counted.
+    fn step_counted<J: Judging>(&mut self) -> Result<Stepped, AllocError>
         requires room { self.old.taken + 1 < 2 ^ 64 }
         requires allowed { J.allows (front_fault self.old) }
         ensures step { OnOk result (self.new ≡ step self.old) }

@@ -1,9 +1,12 @@
 //! What joins the queue, and what is there before the first move.
-ghost use Rattle.std.specs.Prelude.{◌≡◌, None, OnOk, OnErr};
+ghost use Rattle.std.specs.Prelude.{◌≡◌, None, OnOk, OnErr, IfErr, IsErrAnd, MatchOption};
 ghost use Rattle.std.specs.Option.{option_copied};
 ghost use Rattle.mh_model.specs.Late.{is_late_scene, is_written_so};
 ghost use Rattle.mh_model.specs.Step.{posted, obstacle, is_not_late, is_another_group, is_past_the_last, is_in_range, is_over_size, is_over_number, has_begun, preset, preset_obstacle};
+ghost use Rattle.mh_machine.specs.Refusal.{preset_refusal};
 
+use crate::passing::refuse_file;
+use crate::refusal::{RefusedFile, RefusedWhy};
 use crate::works::Works;
 use mh_base::GroupName;
 use mh_carousel::is_large;
@@ -77,21 +80,6 @@ impl Works {
         }
     }
 
-    /// Why a file cannot be there before the first move, if it cannot.
-    pub fn preset_obstacle(&self, file: &File) -> Option<Obstacle>
-        ensures { result ≡ preset_obstacle file.now self.now.state }
-    {
-        if self.has_begun() {
-            Some(Obstacle::Begun)
-        } else if is_large(file) {
-            Some(Obstacle::TooLarge)
-        } else if self.carousel.is_one_too_many(file, self.agenda.queue()) {
-            Some(Obstacle::TooMany)
-        } else {
-            None
-        }
-    }
-
     /// Whether a step was taken, or an input posted.
     fn has_begun(&self) -> bool
         ensures { result ≡ has_begun self.now.state }
@@ -99,13 +87,24 @@ impl Works {
         self.taken != 0 || !self.agenda.is_empty()
     }
 
-    /// A file is there before the first move.
-    pub fn preset(&mut self, file: File) -> Result<(), AllocError>
+    /// A file is there before the first move. A refused one is handed back, and nothing changes.
+    pub fn preset(&mut self, file: File) -> Result<(), RefusedFile>
         ensures preset { OnOk result (self.new.state ≡ preset file self.old.state) }
+        ensures accepted { OnOk result (preset_obstacle file self.old.state ≡ None) }
+        ensures back { IfErr result (λ refused. refused.file ≡ file) }
         ensures kept { OnErr result (self.new.state ≡ self.old.state) }
+        ensures refused { MatchOption (preset_refusal file self.old.state)
+            (IfErr result (λ refused. refused.why ≡ RefusedWhy.NoMemory))
+            (λ why. IsErrAnd result (λ refused. refused.why ≡ why)) }
         ensures marks { self.new.marks ≡ self.old.marks }
     {
-        self.carousel.arrive(file)
+        if self.has_begun() {
+            return refuse_file(RefusedWhy::Begun, file);
+        }
+        match self.carousel.arrive(file) {
+            Ok(()) => Ok(()),
+            Err(refused) => Err(RefusedFile::of_arrival(refused)),
+        }
     }
 
     /// Adds an input at the end of the queue.

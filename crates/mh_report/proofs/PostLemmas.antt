@@ -9,10 +9,10 @@ use Rattle.mh_model.specs.Step.{posted, posted_by, obstacle}
 use Rattle.mh_laws.specs.Budget.{bound_of}
 use Rattle.mh_engine.specs.Play.{Play, with_more}
 use Rattle.std.specs.Option.{option_map}
-use Rattle.mh_engine.specs.Answer.{post_refusal, refusal_for}
-use Rattle.mh_engine.specs.declared.refusal.Refused.{Refused}
-use Rattle.mh_engine.specs.declared.refusal.RefusedWhy.{RefusedWhy}
-use Rattle.mh_engine.specs.declared.refusal.RefusedWhy.TheVariants as refused
+use Rattle.mh_machine.specs.Refusal.{post_refusal, refusal_for}
+use Rattle.mh_machine.specs.declared.refusal.Refused.{Refused}
+use Rattle.mh_machine.specs.declared.refusal.RefusedWhy.{RefusedWhy}
+use Rattle.mh_machine.specs.declared.refusal.RefusedWhy.TheVariants as refused
 use Rattle.mh_script.specs.declared.script.Command.TheVariants as command
 use Rattle.mh_report.specs.Report.{Session, why_line, post_lines, played}
 

@@ -6,11 +6,11 @@ use Rattle.mh_model.specs.declared.file.File.{File}
 use Rattle.mh_model.specs.declared.input.Obstacle.{Obstacle}
 use Rattle.mh_model.specs.State.{State}
 use Rattle.mh_model.specs.Step.{preset, preset_obstacle}
-use Rattle.mh_engine.specs.Answer.{preset_refusal, refusal_for}
+use Rattle.mh_machine.specs.Refusal.{preset_refusal, refusal_for}
 use Rattle.mh_engine.specs.Play.{Play}
-use Rattle.mh_engine.specs.declared.refusal.RefusedFile.{RefusedFile}
-use Rattle.mh_engine.specs.declared.refusal.RefusedWhy.{RefusedWhy}
-use Rattle.mh_engine.specs.declared.refusal.RefusedWhy.TheVariants as refused
+use Rattle.mh_machine.specs.declared.refusal.RefusedFile.{RefusedFile}
+use Rattle.mh_machine.specs.declared.refusal.RefusedWhy.{RefusedWhy}
+use Rattle.mh_machine.specs.declared.refusal.RefusedWhy.TheVariants as refused
 use Rattle.mh_told.specs.declared.unplayable.Unplayable.{Unplayable}
 use Rattle.mh_told.specs.declared.unplayable.Unplayable.TheVariants as unplayable
 use Rattle.mh_told.specs.Reading.{Fails}

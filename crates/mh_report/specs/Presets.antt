@@ -5,8 +5,8 @@ use Rattle.mh_model.specs.declared.input.Obstacle.{Obstacle}
 use Rattle.mh_model.specs.Service.{Service}
 use Rattle.mh_model.specs.State.{State, begun}
 use Rattle.mh_model.specs.Step.{preset, preset_obstacle}
-use Rattle.mh_engine.specs.Answer.{refusal_for, refusal_number}
-use Rattle.mh_engine.specs.declared.refusal.RefusedWhy.{RefusedWhy}
+use Rattle.mh_machine.specs.Refusal.{refusal_for, refusal_number}
+use Rattle.mh_machine.specs.declared.refusal.RefusedWhy.{RefusedWhy}
 use Rattle.mh_told.specs.declared.unplayable.Unplayable.{Unplayable}
 use Rattle.mh_told.specs.declared.unplayable.Unplayable.TheVariants as unplayable
 use Rattle.mh_told.specs.Reading.{◌>>=◌}

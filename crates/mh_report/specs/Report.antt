@@ -8,8 +8,8 @@ use Rattle.mh_model.specs.Picture.{shown}
 use Rattle.mh_model.specs.State.{State}
 use Rattle.mh_model.specs.Step.{advanced, posted}
 use Rattle.mh_machine.specs.Rest.{rest_of}
-use Rattle.mh_engine.specs.Answer.{post_refusal, refusal_number}
-use Rattle.mh_engine.specs.declared.refusal.RefusedWhy.{RefusedWhy}
+use Rattle.mh_machine.specs.Refusal.{post_refusal, refusal_number}
+use Rattle.mh_machine.specs.declared.refusal.RefusedWhy.{RefusedWhy}
 use Rattle.mh_script.specs.declared.script.Command.{Command}
 use Rattle.mh_script.specs.declared.script.Command.TheVariants as command
 use Rattle.mh_exit.specs.Codes.{code_of}

@@ -405,16 +405,17 @@ post_line i o = codes "post " ++ input_text i ++ refused_note o ++ 10 ∷ []
 unfoldable pub preset_line : File → Obstacle → List ℕ
 preset_line f o = codes "file " ++ f.name ++ codes "; refused: " ++ obstacle_text o ++ 10 ∷ []
 
-abbrev pub preset_by : Option Obstacle → File → Tracing → Tracing
-preset_by None f p = record p { state = preset f p.state }
-preset_by (Some o) f p = p
+-- a file is there, unless something is in the way
+abbrev pub preset_unless : Option Obstacle → File → State → State
+preset_unless None f s = preset f s
+preset_unless (Some o) f s = s
 
 abbrev pub preset_text_by : Option Obstacle → File → List ℕ
 preset_text_by None f = []
 preset_text_by (Some o) f = preset_line f o
 
 abbrev pub preset_one : File → Tracing → Tracing
-preset_one f p = preset_by (preset_obstacle f p.state) f p
+preset_one f p = record p { state = preset_unless (preset_obstacle f p.state) f p.state }
 
 abbrev pub preset_text : File → Tracing → List ℕ
 preset_text f p = preset_text_by (preset_obstacle f p.state) f

@@ -5,6 +5,7 @@
 //! are read as a service, and where a trace goes, is left to the caller.
 #![tactic(auto)]
 
+mod calls;
 pub mod cover;
 mod described;
 mod directory;

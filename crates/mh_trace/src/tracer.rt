@@ -5,13 +5,14 @@ ghost use Rattle.mh_model.specs.Step.{obstacle, posted};
 ghost use Rattle.mh_machine.specs.Rest.{answer_of};
 ghost use Rattle.mh_trace.specs.Trace as spec;
 
+use crate::calls::{post_copy, preset_copy, step_once};
 use crate::head::put_head;
 use crate::outcome::{put_outcome, put_post, put_preset};
 use crate::places::{add_done, add_entered, place_behind, put_sites};
 use crate::seen::{Seen, is_fault, see, starts};
 use crate::site::Site;
 use mh_base::GroupName;
-use mh_machine::{Judged, Machine, Rest, Stepped};
+use mh_machine::{Machine, Stepped};
 use mh_model::{File, Input, Item};
 use mh_script::Command;
 use mh_told::text::Text;
@@ -96,9 +97,9 @@ impl Tracer {
         ensures line { OnOk result (text.new ≡ text.old ++ spec.preset_text file.now self.old) }
         ensures left { OnOk result (self.new ≡ spec.preset_one file.now self.old) }
     {
-        match self.machine.preset_obstacle(file) {
+        match preset_copy(&mut self.machine, file)? {
             Some(obstacle) => put_preset(text, file, obstacle),
-            None => self.machine.preset(file.clone()?),
+            None => Ok(()),
         }
     }
 
@@ -130,12 +131,8 @@ impl Tracer {
         ensures line { OnOk result (text.new ≡ text.old ++ spec.post_line input.now (obstacle input.now self.old.state)) }
         ensures posted { OnOk result (self.new ≡ record self.old { state = posted input.now self.old.state }) }
     {
-        let obstacle = self.machine.obstacle(input);
-        put_post(self.alloc, text, input, obstacle)?;
-        if obstacle.is_none() {
-            self.machine.post(input.clone()?)?;
-        }
-        Ok(())
+        let obstacle = post_copy(&mut self.machine, input)?;
+        put_post(self.alloc, text, input, obstacle)
     }
 
     /// Makes so many steps, or as many as there are to make, and puts a line on each and one on all.
@@ -213,7 +210,7 @@ impl Tracer {
             self.directory.as_slice(),
         )?;
         let seen = see(self.alloc, front, &self.machine, self.places.as_slice())?;
-        let answer = self.machine.step::<Judged>()?;
+        let answer = step_once(&mut self.machine)?;
         self.settle(front, seen, &answer, text)?;
         Ok(())
     }

@@ -1,11 +1,11 @@
 -- A post that the engine takes or refuses, told by its number.
 use Rattle.std.specs.Prelude.{◌≡◌, ℕ, ◌<◌, Option, Some, None, MatchOption, Result, Ok, Err, OnOk, OnErr, IfErr, IsErrAnd, refl}
 use Rattle.std.proofs.Common.{ap, ◌∙◌, sym, subst, arith}
-use Rattle.mh_engine.specs.Answer.{post_refusal}
+use Rattle.mh_machine.specs.Refusal.{post_refusal}
 use Rattle.mh_engine.specs.Play.{Play, with_more}
-use Rattle.mh_engine.specs.declared.refusal.Refused.{Refused}
-use Rattle.mh_engine.specs.declared.refusal.RefusedWhy.{RefusedWhy}
-use Rattle.mh_engine.specs.declared.refusal.RefusedWhy.TheVariants as refused
+use Rattle.mh_machine.specs.declared.refusal.Refused.{Refused}
+use Rattle.mh_machine.specs.declared.refusal.RefusedWhy.{RefusedWhy}
+use Rattle.mh_machine.specs.declared.refusal.RefusedWhy.TheVariants as refused
 use Rattle.mh_laws.specs.Budget.{bound_of}
 use Rattle.mh_model.specs.declared.input.Input.{Input}
 use Rattle.mh_model.specs.Planes.{Planes}

@@ -2,9 +2,9 @@
 use Rattle.std.specs.Prelude.{◌≡◌, ℕ, ◌+◌, ◌<◌, List, [], ◌∷◌, length, drop, Option, Some, None, Result, Ok, Err, refl}
 use Rattle.std.specs.Option.{option_map_or}
 use Rattle.std.proofs.Common.{ap, ◌∙◌, sym, subst, add-one, get_or, drop-cons}
-use Rattle.mh_engine.specs.Answer.{preset_refusal}
-use Rattle.mh_engine.specs.declared.refusal.RefusedWhy.{RefusedWhy}
-use Rattle.mh_engine.specs.declared.refusal.RefusedWhy.TheVariants as refused
+use Rattle.mh_machine.specs.Refusal.{preset_refusal}
+use Rattle.mh_machine.specs.declared.refusal.RefusedWhy.{RefusedWhy}
+use Rattle.mh_machine.specs.declared.refusal.RefusedWhy.TheVariants as refused
 use Rattle.mh_model.specs.State.{State}
 use Rattle.mh_model.specs.Step.{preset}
 use Rattle.mh_model.specs.declared.file.File.{File}

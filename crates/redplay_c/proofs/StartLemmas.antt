@@ -6,8 +6,8 @@ use Rattle.mh_base.specs.declared.name_error.NameError.{NameError}
 use Rattle.mh_base.specs.declared.name_error.NameError.TheVariants as unnamed
 use Rattle.mh_codec.specs.Tags.{Tags, profile}
 use Rattle.mh_engine.specs.Play.{Play, unbounded}
-use Rattle.mh_engine.specs.declared.refusal.RefusedWhy.{RefusedWhy}
-use Rattle.mh_engine.specs.declared.refusal.RefusedWhy.TheVariants as refused
+use Rattle.mh_machine.specs.declared.refusal.RefusedWhy.{RefusedWhy}
+use Rattle.mh_machine.specs.declared.refusal.RefusedWhy.TheVariants as refused
 use Rattle.mh_flow.specs.Equipment.{equipped}
 use Rattle.mh_laws.specs.Budget.{Bounds}
 use Rattle.mh_layers.specs.Known.{top}

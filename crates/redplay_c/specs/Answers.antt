@@ -2,8 +2,8 @@
 use Rattle.std.specs.Prelude.{◌≡◌, ℕ, ◌<◌, unwrap_or}
 use Rattle.mh_base.specs.declared.name_error.NameError.{NameError}
 use Rattle.mh_base.specs.declared.name_error.NameError.TheVariants as unnamed
-use Rattle.mh_engine.specs.Answer.{refusal_number}
-use Rattle.mh_engine.specs.declared.refusal.RefusedWhy.{RefusedWhy}
+use Rattle.mh_machine.specs.Refusal.{refusal_number}
+use Rattle.mh_machine.specs.declared.refusal.RefusedWhy.{RefusedWhy}
 use Rattle.mh_model.specs.declared.rest.Rest.{Rest}
 use Rattle.mh_model.specs.declared.rest.Rest.TheVariants as rest
 use Rattle.redplay_c.specs.declared.start_refusal.StartRefusal.{StartRefusal}

@@ -3,7 +3,7 @@ use Rattle.std.specs.Prelude.{◌≡◌, ℕ, ◌≤◌, length, List, Option, S
 use Rattle.std.specs.Bool.{MatchBool}
 use Rattle.mh_base.specs.Path.{is_path}
 use Rattle.mh_codec.specs.Tags.{profile}
-use Rattle.mh_engine.specs.Answer.{post_refusal}
+use Rattle.mh_machine.specs.Refusal.{post_refusal}
 use Rattle.mh_engine.specs.Play.{Play, with_more}
 use Rattle.mh_group.specs.declared.written.Written.{Written}
 use Rattle.mh_laws.specs.Budget.{Bounds as Limits, bound_of}

@@ -2,10 +2,10 @@
 use Rattle.std.specs.Prelude.{◌≡◌, ℕ, ◌<◌, ◌≤◌, Bool, true, false, not, List, [], ◌∷◌, Option, Some, None, Result, Ok, Err}
 use Rattle.std.specs.Option.{option_map_or}
 use Rattle.mh_codec.specs.Tags.{profile}
-use Rattle.mh_engine.specs.Answer.{preset_refusal}
+use Rattle.mh_machine.specs.Refusal.{preset_refusal}
 use Rattle.mh_engine.specs.Play.{Play, unbounded}
-use Rattle.mh_engine.specs.declared.refusal.RefusedWhy.{RefusedWhy}
-use Rattle.mh_engine.specs.declared.refusal.RefusedWhy.TheVariants as refused
+use Rattle.mh_machine.specs.declared.refusal.RefusedWhy.{RefusedWhy}
+use Rattle.mh_machine.specs.declared.refusal.RefusedWhy.TheVariants as refused
 use Rattle.mh_model.specs.declared.file.File.{File as Content}
 use Rattle.mh_model.specs.Planes.{blank}
 use Rattle.mh_model.specs.Service.{Service}

@@ -1,6 +1,6 @@
 //! Content files that are put there before the first move.
 ghost use Rattle.std.specs.Prelude.{◌≡◌, Ok, Some, None, IfOk, IfErr, OnOk};
-ghost use Rattle.mh_engine.specs.Answer.{preset_refusal};
+ghost use Rattle.mh_machine.specs.Refusal.{preset_refusal};
 ghost use Rattle.mh_model.specs.Step.{preset};
 ghost use Rattle.redplay_c.specs.Starts.{IsRefusedFor, Refuses, presets};
 

@@ -4,9 +4,9 @@ use Rattle.mh_model.specs.declared.input.Obstacle.{Obstacle}
 use Rattle.mh_model.specs.declared.input.Obstacle.TheVariants as obstacle
 use Rattle.mh_model.specs.Step.{posted_by}
 use Rattle.mh_laws.specs.Budget.{bound_of, paid_unless}
-use Rattle.mh_engine.specs.declared.refusal.RefusedWhy.{RefusedWhy}
-use Rattle.mh_engine.specs.declared.refusal.RefusedWhy.TheVariants as refused
-use Rattle.mh_engine.specs.Answer.{refusal_for}
+use Rattle.mh_machine.specs.declared.refusal.RefusedWhy.{RefusedWhy}
+use Rattle.mh_machine.specs.declared.refusal.RefusedWhy.TheVariants as refused
+use Rattle.mh_machine.specs.Refusal.{refusal_for}
 use Rattle.mh_engine.specs.Play.{Play, with_more}
 use Rattle.mh_engine.proofs.runs.post_or_pass.Goals as goal
 
