@@ -1,5 +1,5 @@
 -- What every engine keeps.
-use Rattle.std.specs.Prelude.{◌≡◌, ◌<◌, ◌≤◌, ◌^◌, ℕ, zero, suc, Bool, true, false, if◌then◌else◌, [], Option, Some, None, Result, Ok, Err, OnOk, OnErr, slice_get, refl}
+use Rattle.std.specs.Prelude.{◌≡◌, ◌<◌, ◌≤◌, ◌^◌, ℕ, zero, suc, Bool, true, false, if◌then◌else◌, [], Option, Some, None, Result, Ok, Err, IfOk, OnOk, OnErr, slice_get, refl}
 use Rattle.std.proofs.Common.{◌∙◌, ap, sym, subst, arith}
 use Rattle.mh_model.specs.declared.file.File.{File}
 use Rattle.mh_model.specs.declared.input.Input.{Input}
@@ -21,6 +21,7 @@ use Rattle.mh_verify.specs.Free.{IsAcceptedBy}
 use Rattle.mh_machine.specs.Judging.{AreAllowed}
 use Rattle.mh_machine.specs.Working.{IsPartly}
 use Rattle.mh_machine.specs.Rest.{is_faulted, judged, answer_by, answer_of}
+use Rattle.mh_machine.specs.declared.stepped.Stepped.{Stepped}
 use Rattle.mh_machine.specs.declared.stepped.Stepped.TheVariants.{Ended}
 use Rattle.mh_engine.specs.Play.{IsKept, IsWithin, Play, with_more}
 use Rattle.mh_engine.proofs.WithinLemmas.{nothing_more, top_more, within_advanced, within_begun, within_posted, within_preset, within_safe, within_small, within_step, within_taken, within_told}
@@ -57,6 +58,11 @@ kept_faults p k accepted = (safe_faultless p.state (kept_safe p k accepted)).fau
 
 pub kept_unfaulted : (p : Play) → IsKept p → p.accepted ≡ true → is_faulted (answer_of p.state) ≡ false
 kept_unfaulted p k accepted = unfaulted p.state (kept_front p k accepted)
+
+-- nor does it, whatever else the step comes to
+pub kept_faultless : {E : Type 0} (p : Play) (r : Result Stepped E) → IsKept p → IfOk r (λ a. a ≡ answer_of p.state) → IfOk r (λ a. p.accepted ≡ true → is_faulted a ≡ false)
+kept_faultless {E} p (Ok a) k is = λ accepted. ap is_faulted is ∙ kept_unfaulted p k accepted
+kept_faultless {E} p (Err x) k is = tt
 
 -- of what 64 bits can count no more steps were taken than the budget has
 kept_taken : (p : Play) → IsKept p → p.state.taken ≤ top → p.state.taken ≤ p.budget
@@ -124,6 +130,16 @@ keeps_step a b n s t room is k = subst (Keeps a b n) (sym is) (keeps_on a b n s 
 
 pub keeps_preset : (a : Bool) (b : Bounds) (n : ℕ) (s t : State) (f : File) → t ≡ preset f s → Keeps a b n s → Keeps a b n t
 keeps_preset a b n s t f is k = subst (Keeps a b n) (sym is) (keeps_on a b n s (preset f s) (within_preset f b n s) k)
+
+-- a step that was made or not, and a file that was preset or not
+
+pub keeps_either_step : {A E : Type 0} (a : Bool) (b : Bounds) (n : ℕ) (s t : State) (r : Result A E) → OnOk r (s.taken ≡ most_steps → is_settled s ≡ true) → OnOk r (t ≡ step s) → OnErr r (t ≡ s) → Keeps a b n s → Keeps a b n t
+keeps_either_step {A} {E} a b n s t (Ok x) room made kept k = keeps_step a b n s t room made k
+keeps_either_step {A} {E} a b n s t (Err x) room made kept k = keeps_same a b n s t kept k
+
+pub keeps_either_preset : {A E : Type 0} (a : Bool) (b : Bounds) (n : ℕ) (s t : State) (f : File) (r : Result A E) → OnOk r (t ≡ preset f s) → OnErr r (t ≡ s) → Keeps a b n s → Keeps a b n t
+keeps_either_preset {A} {E} a b n s t f (Ok x) put kept k = keeps_preset a b n s t f put k
+keeps_either_preset {A} {E} a b n s t f (Err x) put kept k = keeps_same a b n s t kept k
 
 pub keeps_told : (a : Bool) (b : Bounds) (n : ℕ) (s t : State) (o : Outcome) → t ≡ told o s → Keeps a b n s → Keeps a b n t
 keeps_told a b n s t o is k = subst (Keeps a b n) (sym is) (keeps_on a b n s (told o s) (within_told o b n s) k)

@@ -9,3 +9,4 @@ pub mod ByClassLemmas
 pub mod SumLemmas
 pub mod TestLemmas
 pub mod TurnLemmas
+pub mod PresetLemmas

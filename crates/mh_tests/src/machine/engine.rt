@@ -5,6 +5,7 @@ use crate::machine::files::{number_if, refusals};
 use crate::machine::service::Asked;
 use crate::playing::DAY;
 use mh_engine::{Engine, Rest, Stepped};
+use mh_machine::Machine;
 use mh_model::{Input, Key};
 use mh_service::Service;
 use std::alloc::Global;
@@ -108,6 +109,12 @@ impl Played for Engine {
     }
 }
 
+impl Played for Machine {
+    fn answer(&mut self, alloc: Global, asked: &str) -> Option<Vec<u8>> {
+        refusals(alloc, self, asked)
+    }
+}
+
 fn of_played<P: Played + Drop>(alloc: Global, played: Option<P>, asked: &str) -> Option<Vec<u8>> {
     let mut played = played;
     played.as_mut()?.answer(alloc, asked)
@@ -120,6 +127,11 @@ pub fn of_engine(alloc: Global, service: Service, asked: &str) -> Option<Vec<u8>
         Engine::start_lenient(alloc, service, DAY).ok(),
         asked,
     )
+}
+
+/// What is answered of a machine that plays the service with no engine around it.
+pub fn of_machine(alloc: Global, service: Service, asked: &str) -> Option<Vec<u8>> {
+    of_played(alloc, Machine::new(alloc, service, DAY).ok(), asked)
 }
 
 #[test]

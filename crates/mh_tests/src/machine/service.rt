@@ -6,7 +6,7 @@ use crate::cases::all_hold;
 use crate::judging::chains::of_flow;
 use crate::judging::evidence::of_evidence;
 use crate::judging::verify::verdict;
-use crate::machine::engine::of_engine;
+use crate::machine::engine::{of_engine, of_machine};
 use crate::machine::objects::inside;
 use mh_base::GroupName;
 use mh_cases::{Named, Question, add_named, said, word};
@@ -20,6 +20,7 @@ fn of_service(alloc: Global, service: Service, asked: &str) -> Option<Vec<u8>> {
         "verdict" => verdict(alloc, service),
         "holds" | "arrows" | "changed" | "claimed" => of_evidence(alloc, service, asked),
         "idle" | "keys" | "ticks" | "files" => of_engine(alloc, service, asked),
+        "machine" => of_machine(alloc, service, asked),
         "held" | "reached" => of_flow(alloc, &service, asked),
         _ => inside(alloc, &service, asked),
     }
