@@ -9,4 +9,3 @@ pub mod ByClassLemmas
 pub mod SumLemmas
 pub mod TestLemmas
 pub mod TurnLemmas
-pub mod PresetLemmas
