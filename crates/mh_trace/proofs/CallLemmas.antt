@@ -1,13 +1,13 @@
 -- What is in the way of what a machine refused, want of memory aside.
 use Rattle.std.specs.Prelude.{◌≡◌, true, Option, Some, None, Result, Ok, Err, IfOk, OnOk, MatchOption, refl}
 use Rattle.std.specs.Option.{is_some, option_map}
-use Rattle.std.proofs.Common.{ap, ◌∙◌, sym}
+use Rattle.std.proofs.Common.{ap, ◌∙◌, subst, sym}
 use Rattle.mh_model.specs.declared.file.File.{File}
 use Rattle.mh_model.specs.declared.input.Input.{Input}
 use Rattle.mh_model.specs.declared.input.Obstacle.{Obstacle}
 use Rattle.mh_model.specs.declared.input.Obstacle.TheVariants as obstacle
 use Rattle.mh_model.specs.State.{State}
-use Rattle.mh_model.specs.Step.{obstacle as obstacle_to, posted, posted_by, preset_obstacle}
+use Rattle.mh_model.specs.Step.{obstacle as obstacle_to, posted, posted_by, preset, preset_obstacle}
 use Rattle.mh_machine.specs.declared.refusal.RefusedWhy.{RefusedWhy}
 use Rattle.mh_machine.specs.declared.refusal.RefusedWhy.TheVariants as refused
 use Rattle.mh_machine.specs.Refusal.{obstacle_in, refusal_for}
@@ -28,6 +28,12 @@ told_one (Some o) why found some is one = is ∙ ap obstacle_in some ∙ told_ba
 pub told_all : {E : Type 0} (m : Option Obstacle) (why : RefusedWhy) (r : Result (Option Obstacle) E) → MatchOption (option_map refusal_for m) (why ≡ refused.NoMemory) (λ w. why ≡ w) → IfOk r (λ found. found ≡ obstacle_in why) → IfOk r (λ found. is_some found ≡ true) → IfOk r (λ found. found ≡ m)
 told_all {E} m why (Ok found) some is one = told_one m why found some is one
 told_all {E} m why (Err x) some is one = tt
+
+-- where nothing is in the way of a copy, the file is there
+pub preset_free : (f g : File) (s t : State) → g ≡ f → preset_obstacle g s ≡ None → t ≡ preset g s → t ≡ preset_unless (preset_obstacle f s) f s
+preset_free f g s t same free put =
+    let none : preset_obstacle f s ≡ None = subst (λ (x : File). preset_obstacle x s ≡ None) same free in
+    put ∙ ap (λ (x : File). preset x s) same ∙ sym (ap (λ (m : Option Obstacle). preset_unless m f s) none)
 
 -- what is in the way of a file leaves the machine as it was
 some_left : (m : Option Obstacle) (f : File) (s : State) → is_some m ≡ true → s ≡ preset_unless m f s

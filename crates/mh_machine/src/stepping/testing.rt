@@ -27,7 +27,8 @@ impl Works {
         let Some(put) = self.first_test()? else {
             return Ok(false);
         };
-        self.work.reserve(MOST_PUT)?;
+        let room = self.work.reserve(MOST_PUT);
+        let put = room.and(Ok(put))?;
         self.work.put_by_act(put);
         self.taken += 1;
         Ok(true)
