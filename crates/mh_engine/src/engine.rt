@@ -1,5 +1,5 @@
 //! `Engine`: a machine with the verdict on its service, and with how many steps may be taken.
-ghost use Rattle.std.specs.Prelude.{◌≡◌, ◌+◌, ◌<◌, ◌≤◌, ◌^◌, true, false, None, Some, [], IfOk, IfErr, OnOk, OnErr, IsErrOf, IsErrAnd, MatchOption};
+ghost use Rattle.std.specs.Prelude.{◌≡◌, ◌≤◌, true, false, None, Some, [], IfOk, IfErr, OnOk, OnErr, IsErrOf, IsErrAnd, MatchOption};
 ghost use Rattle.mh_model.specs.State.{begun};
 ghost use Rattle.mh_model.specs.declared.input.Obstacle.{Obstacle};
 ghost use Rattle.mh_model.specs.Step.{step, is_empty, posted, preset, preset_obstacle, obstacle, is_settled, advanced};
