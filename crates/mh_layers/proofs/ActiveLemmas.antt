@@ -1,8 +1,9 @@
 -- What an active effect has: its configuration and its object stand at their numbers, and of the object something is said.
-use Rattle.std.specs.Prelude.{◌≡◌, ℕ, true, [], length, slice_get, unwrap_or, Option, Some, None}
-use Rattle.std.proofs.Common.{inl, ap, ◌∙◌, sym}
+use Rattle.std.specs.Prelude.{◌≡◌, ℕ, true, [], length, slice_get, is_some, unwrap_or, Option, Some, None, refl}
+use Rattle.std.proofs.Common.{inl, ap, ◌∙◌, subst, sym}
 use Rattle.mh_base.specs.declared.obj_ref.ObjRef.{ObjRef}
 use Rattle.mh_model.specs.declared.config.Config.{Config}
+use Rattle.mh_model.specs.declared.object.Fixed.{Fixed}
 use Rattle.mh_model.specs.Configuration.{present}
 use Rattle.mh_model.specs.Reference.{same_key}
 use Rattle.mh_model.specs.Service.{is_there, part_at}
@@ -10,7 +11,8 @@ use Rattle.mh_laws.specs.Flow.{reached}
 use Rattle.mh_laws.proofs.NodeLemmas.{config_among}
 use Rattle.mh_layers.specs.declared.numbered_node.NumberedNode.{NumberedNode}
 use Rattle.mh_layers.specs.declared.numbered_node.NumberedNode.TheVariants as node
-use Rattle.mh_layers.specs.Reading.{IsReading, Reading, config_number, flow_read, object_number, same_setting, settings}
+use Rattle.mh_layers.specs.Applied.{object_in}
+use Rattle.mh_layers.specs.Reading.{CostContext, IsReading, Reading, config_number, context_in, flow_read, has_object, object_named, object_number, same_setting, settings}
 use Rattle.mh_layers.specs.EffectSites.{effect_named}
 use Rattle.mh_layers.specs.Trails.{IsActive, IsStep}
 use Rattle.mh_layers.proofs.ListeningLemmas.{objects_numbered, present_among, tells_objects}
@@ -37,10 +39,6 @@ abbrev config_in : NumberedNode → ℕ
 config_in (node.Effect c o n) = c
 config_in _ = 0
 
-abbrev object_in : NumberedNode → ℕ
-object_in (node.Effect c o n) = o
-object_in _ = 0
-
 pub config_there : (r : Reading) → IsReading r → (k : NumberedNode) → IsActive r k → (c o n : ℕ) → k ≡ node.Effect c o n → slice_get (settings r) c ≡ None → ⊥
 config_there r read k active c o n is none =
     let x = effect_named r k in
@@ -54,6 +52,32 @@ object_there r read k active c o n is none =
     let same : object_number r x.object ≡ o = ap object_in (sym active.own ∙ is) in
     let at = sym none ∙ ap (slice_get r.listeners.objects) (sym same) ∙ object_at r read x.config x.object (active_kept r read x active.on).1 in
     absurd cc
+
+-- the object has a number, by which it is named
+pub object_has : (r : Reading) → IsReading r → (k : NumberedNode) → IsActive r k → has_object r (object_in k) ≡ true
+object_has r read k active =
+    let x = effect_named r k in
+    let same : object_number r x.object ≡ object_in k = ap object_in (sym active.own) in
+    ap is_some (ap (slice_get r.listeners.objects) (sym same) ∙ object_at r read x.config x.object (active_kept r read x active.on).1)
+
+pub object_by : (r : Reading) (k : NumberedNode) → object_named r (object_in k) ≡ (effect_named r k).object
+object_by r (node.Effect c o n) = refl
+object_by r _ = refl
+
+-- and something is said of it where the effect is
+pub part_active : (r : Reading) → IsReading r → (k : NumberedNode) → IsActive r k → (p : Fixed) × (part_at (effect_named r k).object (present r.service (effect_named r k).config) ≡ Some p)
+part_active r read k active =
+    let x = effect_named r k in
+    there_found x.object (present r.service x.config) (active_kept r read x active.on).1
+
+-- where the configuration of the effect was found
+pub part_at_here : (r : Reading) (k : NumberedNode) (s : CostContext) (p : Fixed) → s ≡ context_in r (effect_named r k).config → part_at (effect_named r k).object (present r.service (effect_named r k).config) ≡ Some p
+    → part_at (effect_named s.reading k).object (present s.reading.service s.config) ≡ Some p
+part_at_here r k s p context at = subst (λ (t : CostContext). part_at (effect_named t.reading k).object (present t.reading.service t.config) ≡ Some p) (sym context) at
+
+pub part_at_there : (r : Reading) (k : NumberedNode) (s : CostContext) (p : Fixed) → s ≡ context_in r (effect_named r k).config → part_at (effect_named r k).object (present r.service (effect_named r k).config) ≡ Some p
+    → part_at (effect_named s.reading k).object (present s.reading.service (effect_named s.reading k).config) ≡ Some p
+part_at_there r k s p context at = subst (λ (t : CostContext). part_at (effect_named t.reading k).object (present t.reading.service (effect_named t.reading k).config) ≡ Some p) (sym context) at
 
 pub part_there : (r : Reading) → IsReading r → (k : NumberedNode) → IsActive r k → part_at (effect_named r k).object (present r.service (effect_named r k).config) ≡ None → ⊥
 part_there r read k active none =

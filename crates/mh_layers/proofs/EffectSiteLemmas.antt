@@ -1,20 +1,19 @@
 -- Where effects stand, and their labels.
-use Rattle.std.specs.Prelude.{◌≡◌, ◌<◌, ◌≤◌, ◌+◌, ◌==◌, ◌&&◌, ℕ, zero, suc, true, false, List, [], ◌∷◌, ◌++◌, length, map, take, get_or, slice_get, unwrap_or, Option, Some, refl}
+use Rattle.std.specs.Prelude.{◌≡◌, ◌<◌, ◌≤◌, ◌==◌, ◌&&◌, ℕ, true, false, List, [], ◌∷◌, ◌++◌, length, map, get_or, slice_get, unwrap_or, Option, Some, refl}
 use Rattle.std.specs.declared.cmp.Ordering.{Ordering}
 use Rattle.std.specs.declared.cmp.Ordering.TheVariants.{Less, Equal, Greater}
 use Rattle.std.specs.Cmp.{IsTotalOrder, then_total, on_total, nat_cmp_total, ranked, tied_itself}
 use Rattle.std.specs.Cmp.Lexicographic.{slice_cmp}
-use Rattle.std.specs.List.{flat_map, list_any}
+use Rattle.std.specs.List.{list_any}
 use Rattle.std.specs.List.Sorted.{IsSorted}
 use Rattle.std.specs.Ordering.{is_lt, nat_cmp, MatchOrdering, ordering_reverse, ordering_then}
-use Rattle.std.proofs.Common.{arith, ap, ◌∙◌, sym, subst, append-nil, length-append}
+use Rattle.std.proofs.Common.{arith, ap, ◌∙◌, sym, subst}
 use Rattle.std.proofs.lemmas.Bool.Decides.{Decides-eqb}
 use Rattle.std.proofs.lemmas.List.Sorted.{ranks_by, sorted_far}
 use Rattle.std.proofs.lemmas.Map.Lookups.{exact_bytes, exact_unsigned}
 use Rattle.std.proofs.lemmas.Option.{get_or_from_slice_get, slice_get_within}
 use Rattle.indexmap.specs.IndexSet.{insert_all}
 use Rattle.mh_base.specs.declared.obj_ref.ObjRef.{ObjRef}
-use Rattle.mh_model.specs.declared.act.Act.{Act}
 use Rattle.mh_model.specs.declared.config.Config.{Config}
 use Rattle.mh_model.specs.Reference.{same_key as same_ref_key}
 use Rattle.mh_model.proofs.ListLemmas.{and_left, and_right, some_same}
@@ -28,40 +27,19 @@ use Rattle.mh_layers.specs.declared.numbered_node.NumberedNode.TheVariants as no
 use Rattle.mh_layers.specs.declared.cycle.effect_site.EffectSite.{EffectSite}
 use Rattle.mh_layers.specs.NodeGraph.{label_to}
 use Rattle.mh_layers.specs.Cycle.{by_place, cause_of}
-use Rattle.mh_layers.specs.Reading.{Reading, config_named, no_config, no_object, object_named, settings}
+use Rattle.mh_layers.specs.Reading.{Reading, config_named, no_config, object_named, settings}
 use Rattle.mh_layers.specs.EffectSites.{AreEffectSites, cause_by, cause_named, label_in, same_effect_site, effect_site_cmp, effect_site_named, effect_site_number}
 use Rattle.mh_layers.proofs.ListeningLemmas.{tells_objects}
 use Rattle.mh_layers.proofs.PositionLemmas.{TellsOne, position_is, position_there, put_all}
 
--- ACTIONS
+-- CAUSES
 
-abbrev all_acts : List (List Act) → List Act
-all_acts xs = flat_map (λ (e : List Act). e) xs
-
-acts_next : (xs : List (List Act)) (n : ℕ) → length (all_acts (take (suc n) xs)) ≡ length (all_acts (take n xs)) + length (get_or xs n [])
-acts_next [] zero = refl
-acts_next [] (suc n) = refl
-acts_next (x ∷ xs) zero = let e : length (x ++ []) ≡ length x = ap length (append-nil x) in omega (arith, e)
-acts_next (x ∷ xs) (suc n) =
-    let ih = acts_next xs n in
-    let a = length-append x (all_acts (take (suc n) xs)) in
-    let b = length-append x (all_acts (take n xs)) in
-    omega (arith, ih, a, b)
-
--- with one more effect there are its actions more
-pub acts_more : (xs : List (List Act)) (n m : ℕ) → m ≡ suc (length (flat_map (λ (e : List Act). e) (take n xs))) → m + length (get_or xs n []) ≡ suc (length (flat_map (λ (e : List Act). e) (take (n + 1) xs)))
-acts_more xs n m is =
-    let one : suc n ≡ n + 1 = omega arith in
-    let next : length (all_acts (take (n + 1) xs)) ≡ length (all_acts (take n xs)) + length (get_or xs n []) = subst (λ (k : ℕ). length (all_acts (take k xs)) ≡ length (all_acts (take n xs)) + length (get_or xs n [])) one (acts_next xs n) in
-    omega (arith, is, next)
-
--- the effect with these numbers is that of the configuration and object that were found
-pub cause_found : (r : Reading) (c o n : ℕ) (config : Config) (at : ObjRef) (cause : Cause) → slice_get (settings r) c ≡ Some config → slice_get r.listeners.objects o ≡ Some at
-    → cause ≡ cause_of r.service (record { config = config; object = at; number = n }) → cause ≡ cause_by r c o n
-cause_found r c o n config at cause found there is =
+-- the effect with these numbers is that of the configuration that was found
+pub cause_found : (r : Reading) (c o n : ℕ) (config : Config) (cause : Cause) → slice_get (settings r) c ≡ Some config
+    → cause ≡ cause_of r.service (record { config = config; object = object_named r o; number = n }) → cause ≡ cause_by r c o n
+cause_found r c o n config cause found is =
     let named : config_named r c ≡ config = get_or_from_slice_get (settings r) c config (no_config (settings r)) found in
-    let object : object_named r o ≡ at = get_or_from_slice_get r.listeners.objects o at (no_object r.listeners.objects) there in
-    is ∙ sym (λ i. cause_of r.service (record { config = named i; object = object i; number = n }))
+    is ∙ sym (λ i. cause_of r.service (record { config = named i; object = object_named r o; number = n }))
 
 -- PLACES
 

@@ -21,6 +21,11 @@ puts_so r c a t = done_to (around_at (context_in r c)) a.name a.arguments t
 abbrev pub CountsNode : Reading → Config → Act → ObjRef → NumberedNode → Type 0
 CountsNode r c a t k = Among (counted_in (numbered (number r) (puts_so r c a t))) k
 
+-- the number of the object of an effect
+abbrev pub object_in : NumberedNode → ℕ
+object_in (node.Effect c o n) = o
+object_in _ = 0
+
 -- the number of an effect through those of its object
 abbrev pub number_in : NumberedNode → ℕ
 number_in (node.Effect c o n) = n

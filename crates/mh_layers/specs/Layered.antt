@@ -1,6 +1,7 @@
 -- The layers of a service, as they are laid: by numbers, of all active effects that have actions.
-use Rattle.std.specs.Prelude.{◌≡◌, ℕ, Bool, not, List, [], ◌∷◌, ◌++◌, map, filter, length, min}
+use Rattle.std.specs.Prelude.{◌≡◌, ℕ, Bool, not, List, [], ◌∷◌, ◌++◌, map, filter, get_or, length, min}
 use Rattle.std.specs.List.{flat_map, range_with_len}
+use Rattle.mh_model.specs.declared.act.Act.{Act}
 use Rattle.mh_model.specs.declared.config.Config.{Config}
 use Rattle.mh_model.specs.declared.object.Fixed.{Fixed}
 use Rattle.mh_model.specs.Configuration.{present, starting}
@@ -31,6 +32,10 @@ pub record Layered : Type 0 where
 -- the effects of an object that have actions, by their numbers
 abbrev pub has_actions : Fixed → ℕ → Bool
 has_actions p n = not (is_empty (costs.effect_at p n))
+
+-- the same where these are the effects
+abbrev pub acting_among : List (List Act) → List ℕ
+acting_among es = filter (λ n. not (is_empty (get_or es n []))) (range_with_len 0 (length es))
 
 abbrev pub acting : Fixed → List ℕ
 acting p = filter (has_actions p) (range_with_len 0 (length (costs.effects p)))

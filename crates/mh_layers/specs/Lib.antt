@@ -10,6 +10,7 @@ pub mod CostNodes
 pub mod Bridge
 pub mod Hashing
 pub mod Listening
+pub mod NumberedEffects
 pub mod Reading
 pub mod Layered
 pub mod Bounding

@@ -10,6 +10,7 @@ use Rattle.mh_base.specs.declared.value.Value.{Value}
 use Rattle.mh_base.specs.declared.value.Value.TheVariants as value
 use Rattle.mh_base.specs.declared.event.EventType.{EventType}
 use Rattle.mh_base.specs.Event.{is_sync}
+use Rattle.mh_model.specs.declared.act.Act.{Act}
 use Rattle.mh_model.specs.declared.config.Config.{Config}
 use Rattle.mh_model.specs.declared.object.Fixed.{Fixed}
 use Rattle.mh_model.specs.Configuration.{present}
@@ -33,6 +34,7 @@ use Rattle.mh_layers.specs.Known.{told}
 use Rattle.mh_layers.specs.Layering.{Places, cost_in}
 use Rattle.mh_layers.specs.Listening.{IsListening, Listeners, heard}
 use Rattle.mh_layers.specs.Numbered.{numbered}
+use Rattle.mh_layers.specs.NumberedEffects.{effects_at}
 
 pub record Reading : Type 0 where
   pub service : Service
@@ -178,14 +180,15 @@ kept r n = KeptBy r.service (flow_read r) (heard_read r) (name r) n
 
 -- A numbered service, and what is asked of it
 
--- the configurations in the order of the flow, each once under its number, and what is held in each; and the timers that can
--- be set
-pub record IsNumberedService (r : Reading) (cs keys : List Config) (lists : List (List (List ObjRef))) (ts : List TimerKey) : Type 0 where
+-- the configurations in the order of the flow, each once under its number, and what is held in each; the timers that can be
+-- set; and the effects of each object that has a number
+pub record IsNumberedService (r : Reading) (cs keys : List Config) (lists : List (List (List ObjRef))) (ts : List TimerKey) (es : List (List (List Act))) : Type 0 where
   pub reading : IsReading r
   pub all : cs ≡ (flow_read r).configs
   pub once : keys ≡ settings r
   pub held : lists ≡ map (held_in r.service r.flow) keys
   pub timers : ts ≡ every_timer r.service (flow_read r)
+  pub effects : es ≡ map (effects_at r.service) r.listeners.objects
 
 -- a configuration of a numbered service
 pub record CostContext : Type 0 where

@@ -11,7 +11,8 @@ pub(crate) mod putting;
 ghost use Rattle.std.specs.Prelude.{◌≡◌, Some, IfOk};
 ghost use Rattle.mh_model.specs.Configuration.{present};
 ghost use Rattle.mh_model.specs.Service.{part_at};
-ghost use Rattle.mh_layers.specs.Applied.{number_in};
+ghost use Rattle.mh_laws.specs.Costs.{effects};
+ghost use Rattle.mh_layers.specs.Applied.{number_in, object_in};
 ghost use Rattle.mh_layers.specs.Granting.{held_for};
 ghost use Rattle.mh_layers.specs.Listening.{source_of as source_of_lem};
 ghost use Rattle.mh_layers.specs.Reading.{IsReading, flow_read, context_in};
@@ -24,12 +25,11 @@ use crate::arrows::granting::held_for;
 use crate::arrows::putting::by_of;
 use crate::cause::Cause;
 use crate::cycle::effect_site::cause_at;
-use crate::effects::effect_acts;
 use crate::listening::named_data::source_of;
 use crate::numbered::NumberedService;
 use crate::numbered::at::At;
+use crate::numbered::effect_row::EffectRow;
 use crate::numbered_node::NumberedNode;
-use crate::numbering::number_behind;
 use mh_base::Seq;
 use mh_model::Fixed;
 use std::alloc::{AllocError, Global};
@@ -70,6 +70,27 @@ pub(crate) fn part_of<'a>(here: &'a At<'_>, node: &NumberedNode) -> &'a Fixed
         None => unreachable!(),
         Some(part) => part,
     }
+}
+
+/// The number of the object of the effect.
+pub(crate) fn object_of(node: &NumberedNode) -> usize
+    ensures { result ≡ object_in node.now }
+{
+    match node {
+        NumberedNode::Effect(_, object, _) => *object,
+        _ => 0,
+    }
+}
+
+/// The effects of the object of the effect.
+pub(crate) fn effects_at<'a>(here: &'a At<'_>, node: &NumberedNode) -> &'a EffectRow<'a>
+    requires reading { IsReading here.now.reading }
+    requires active { IsActive here.now.reading node.now }
+    ensures { let s = here.now in (p : _)
+        → part_at (effect_named s.reading node.now).object (present s.reading.service (effect_named s.reading node.now).config) ≡ Some p
+        → result.now ≡ effects p }
+{
+    here.numbered_service().effects(object_of(node))
 }
 
 /// The number of the effect through those of its object.
@@ -126,18 +147,19 @@ fn arrow_between(
 {
     let aim = part_of(there, to);
     let by = by_of(aim, number_of(to))?;
-    let part = part_of(here, from);
+    let effects = effects_at(here, from);
+    let number = number_of(from);
     let cause = cause_at(
         here.numbered_service(),
         here.config(),
-        &part.key,
-        number_of(from),
+        object_of(from),
+        number,
     )?;
-    let acts = effect_acts(part, number_of(from));
+    let acts = effects.acts(number);
     match doing_of(here, acts, first)? {
         None => unreachable!(),
         Some(doing) => {
-            let index = number_behind(alloc, part, number_of(from), doing.offset)?;
+            let index = effects.behind_first(number, doing.offset);
             let arrow = arrow_by(alloc, here, cause, index, &doing, aim, by)?;
             Ok(arrow)
         }

@@ -207,6 +207,37 @@ fn cycle_in(
     }
 }
 
+/// What can be laid of these nodes, and of all that they count.
+fn laid_of(
+    alloc: Global,
+    numbered_service: &NumberedService<'_>,
+    nodes: &[NumberedNode],
+) -> Result<Laying, AllocError>
+    requires reading { IsReading numbered_service.now }
+    requires kept { Each (kept numbered_service.now) nodes.now }
+    ensures { IfOk result (λ laying. AreLayers (price numbered_service.now) (kept numbered_service.now) laying) }
+{
+    let mut laying = Laying::new(alloc)?;
+    if let Err(LayersError::NoMemory) = laying.reach(numbered_service, nodes) {
+        return Err(AllocError);
+    }
+    Ok(laying)
+}
+
+/// The first cycle of the service.
+fn cycle_of(
+    alloc: Global,
+    numbered_service: &NumberedService<'_>,
+) -> Result<Option<Vec<Arrow>>, AllocError>
+    ensures some { let v = numbered_service.now.service in let w = flow_read numbered_service.now in IfOk result (λ found. IfSome found (λ arrows. AreFirstArrows v w arrows.items)) }
+    ensures none { let v = numbered_service.now.service in let w = flow_read numbered_service.now in IfOk result (λ found. IfNone found (NoCycles v w)) }
+{
+    numbered_service.read();
+    let nodes = effects(alloc, numbered_service)?;
+    let laying = laid_of(alloc, numbered_service, nodes.as_slice())?;
+    cycle_in(alloc, numbered_service, &laying, nodes.as_slice())
+}
+
 /// The effects of the first cycle, from the first on, each with an action that puts the next to work: of all active effects
 /// that put themselves to work, by way of others, the first by its place and configuration, and of the shortest ways the
 /// first, place by place. None where no effect does.
@@ -220,11 +251,5 @@ pub fn first_cycle(
     ensures none { IfOk result (λ found. IfNone found (NoCycles service.now (flow_in service.now flow.now))) }
 {
     let numbered_service = NumberedService::of(alloc, service, flow)?;
-    numbered_service.read();
-    let nodes = effects(alloc, &numbered_service)?;
-    let mut laying = Laying::new(alloc)?;
-    if let Err(LayersError::NoMemory) = laying.reach(&numbered_service, nodes.as_slice()) {
-        return Err(AllocError);
-    }
-    cycle_in(alloc, &numbered_service, &laying, nodes.as_slice())
+    cycle_of(alloc, &numbered_service)
 }

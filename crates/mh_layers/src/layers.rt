@@ -3,21 +3,23 @@
 //!
 //! Promise: the ranks are a layering, each active effect has its exact cost, and so have the start and the costliest
 //! inputs, cut at the largest number of 64 bits; a cycle is told only where no layering is.
-ghost use Rattle.std.specs.Prelude.{◌≡◌, max, IfOk, IsErrOf};
+ghost use Rattle.std.specs.Prelude.{◌≡◌, max, true, IfOk, IsErrOf};
+ghost use Rattle.std.specs.List.{list_all};
 ghost use Rattle.mh_model.specs.Configuration.{starting};
 ghost use Rattle.mh_laws.specs.Layers.{IsLayering};
 ghost use Rattle.mh_flow.specs.Solved.{IsFlowOf, flow_in};
 ghost use Rattle.mh_layers.specs.declared.numbered_node.NumberedNode.TheVariants as node;
 ghost use Rattle.mh_layers.specs.Bridge.{node_of};
 ghost use Rattle.mh_layers.specs.Cycle.{NoCycles};
-ghost use Rattle.mh_layers.specs.Layered.{AreLayersOf, cost_laid, rank_laid};
-ghost use Rattle.mh_layers.specs.Layering.{cost_in};
-ghost use Rattle.mh_layers.specs.Reading.{config_number, number as number_of_node};
+ghost use Rattle.mh_layers.specs.Layered.{AreLayersOf, cost_laid, rank_laid, root_nodes};
+ghost use Rattle.mh_layers.specs.Layering.{AreLayers, NoneRanked, cost_in, is_laid};
+ghost use Rattle.mh_layers.specs.Looping.{HasLoop};
+ghost use Rattle.mh_layers.specs.Reading.{config_number, kept, number as number_of_node, price};
 ghost use Rattle.mh_layers.specs.Taking.{bound_laid, bounds_laid, largest_from, or_nothing, taken_laid};
 
 use crate::bounds::{Bounds, InputKind};
-use crate::laying::roots::{roots, start_number};
-use crate::laying::{LayersError, Laying, lay};
+use crate::laying::roots::{lay_roots, start_number};
+use crate::laying::{LayersError, Laying};
 use crate::numbered::NumberedService;
 use crate::numbered_node::NumberedNode;
 use mh_base::ObjRef;
@@ -181,6 +183,24 @@ fn with_bounds<'a>(
     }
 }
 
+/// What is laid of a numbered service, and the number of the configuration in which it starts.
+fn lay_with_start(
+    alloc: Global,
+    numbered_service: &NumberedService<'_>,
+) -> Result<(Laying, usize), LayersError>
+    ensures layers { IfOk result (λ x. AreLayers (price numbered_service.now) (kept numbered_service.now) x.0) }
+    ensures laid { IfOk result (λ x. list_all (is_laid x.0) (root_nodes numbered_service.now) ≡ true) }
+    ensures start { IfOk result (λ x. x.1 ≡ config_number numbered_service.now (starting numbered_service.now.service)) }
+    ensures cycle { IsErrOf result LayersError.Cycle → NoneRanked (price numbered_service.now) (kept numbered_service.now) }
+    ensures looped { IsErrOf result LayersError.Cycle → HasLoop (price numbered_service.now) (kept numbered_service.now) }
+{
+    let start = start_number(numbered_service)?;
+    match lay_roots(alloc, numbered_service) {
+        Ok(laying) => Ok((laying, start)),
+        Err(why) => Err(why),
+    }
+}
+
 /// The layers of a service, whose flow is this.
 pub fn lay_service<'a>(
     alloc: Global,
@@ -194,10 +214,11 @@ pub fn lay_service<'a>(
 {
     let numbered_service = NumberedService::of(alloc, service, flow)?;
     numbered_service.read();
-    let nodes = roots(alloc, &numbered_service)?;
-    let start = start_number(&numbered_service)?;
-    match lay(alloc, &numbered_service, nodes.as_slice()) {
-        Ok(laying) => Ok(with_bounds(numbered_service, laying, start)),
-        Err(why) => Err(why),
+    match lay_with_start(alloc, &numbered_service) {
+        Ok((laying, start)) => Ok(with_bounds(numbered_service, laying, start)),
+        Err(why) => {
+            drop(numbered_service);
+            Err(why)
+        }
     }
 }

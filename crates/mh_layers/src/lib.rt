@@ -21,7 +21,6 @@ pub(crate) mod numbered;
 pub mod numbered_node;
 mod numbering;
 mod price;
-mod slots;
 mod ways;
 
 pub use arrows::arrow::{Arrow, By, Held};

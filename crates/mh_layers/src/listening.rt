@@ -85,6 +85,13 @@ impl Listeners {
         self.objects.get_index(number)
     }
 
+    /// All that have a number, in its order.
+    pub fn objects(&self) -> &[ObjRef]
+        ensures { result.now ≡ self.now.objects }
+    {
+        self.objects.as_slice()
+    }
+
     /// How many have a number.
     pub fn len(&self) -> usize
         ensures { result ≡ length self.now.objects }

@@ -4,31 +4,34 @@
 //! are one for the other.
 
 pub(crate) mod at;
+pub(crate) mod effect_row;
+pub(crate) mod effect_table;
 pub(crate) mod named;
+pub(crate) mod objects;
+pub(crate) mod reached;
 pub(crate) mod set_timer;
 pub(crate) mod settings;
 pub(crate) mod timers;
 pub(crate) mod values;
 
-ghost use Rattle.std.specs.Prelude.{◌≡◌, [], map, slice_get, position, ◌∷◌, ◌&&◌, filter, IfOk, OnOk};
-ghost use Rattle.std.specs.Option.{option_copied, option_eq};
-ghost use Rattle.std.specs.Str.{bytes_eq};
-ghost use Rattle.indexmap.specs.IndexSet.{insert_all};
+ghost use Rattle.std.specs.Prelude.{◌≡◌, map, slice_get, position, ◌&&◌, filter, true, Some, IfOk};
+ghost use Rattle.std.specs.Option.{option_copied};
 ghost use Rattle.mh_model.specs.Configuration.{present};
-ghost use Rattle.mh_model.specs.Service.{group_parts};
-ghost use Rattle.mh_flow.specs.Solved.{IsFlowOf, held_in};
+ghost use Rattle.mh_model.specs.Service.{group_parts, part_at};
+ghost use Rattle.mh_laws.specs.Costs.{effects};
+ghost use Rattle.mh_flow.specs.Solved.{IsFlowOf};
 ghost use Rattle.mh_layers.specs.Grouped.{has, is_plain};
 ghost use Rattle.mh_layers.specs.CostNodes.{data_of, every_timer, waits_for};
-ghost use Rattle.mh_layers.specs.Reading.{IsReading, NumbersAreNames, config_number, flow_read, heard_read, lists_read, object_number, place_among, same_setting, setting as spec_setting, settings, values_read};
+ghost use Rattle.mh_layers.specs.Reading.{IsReading, NumbersAreNames, config_number, flow_read, has_object, heard_read, lists_read, object_named, object_number, place_among, same_setting, setting as spec_setting, settings, values_read};
 ghost use Rattle.mh_model.specs.Variables.{same_value};
 
-use crate::listening::Listeners;
+use crate::numbered::effect_row::EffectRow;
+use crate::numbered::objects::Objects;
+use crate::numbered::reached::Reached;
 use crate::numbered::set_timer::SetTimer;
-use crate::numbered::settings::{each_once, held_in_each, is_setting, setting};
-use crate::numbered::timers::Timers;
+use crate::numbered::settings::{is_setting, setting};
 use crate::numbered::values::Values;
-use indexmap::IndexSet;
-use mh_base::{EventType, GroupName, ObjRef, Value};
+use mh_base::{EventType, GroupName, ObjRef, Value, both};
 use mh_flow::{Equipped, Flow, Held, Present};
 use mh_model::{Config, FixedPart};
 use std::alloc::{AllocError, Global};
@@ -40,13 +43,8 @@ pub(crate) struct NumberedService<'a> {
     alloc: Global,
     service: &'a Equipped<'a>,
     flow: &'a Flow,
-    /// The configurations that are reached, in the order of the flow.
-    all: Vec<Config>,
-    /// The same under their numbers, and what is held in each.
-    configs: IndexSet<Config>,
-    held: Vec<Held>,
-    listeners: Listeners,
-    timers: Timers,
+    reached: Reached,
+    objects: Objects<'a>,
 }
 
 impl<'a> Model for NumberedService<'a> {
@@ -57,11 +55,11 @@ impl<'a> Model for NumberedService<'a> {
     ghost view = { λ n. record {
       service = n.service.now;
       flow = n.flow.now;
-      listeners = n.listeners;
+      listeners = n.objects.listeners;
     } };
 
     ghost invariant = { λ n.
-        IsNumberedService (record { service = n.service.now; flow = n.flow.now; listeners = n.listeners }) n.all.items n.configs.keys n.held.items n.timers };
+        IsNumberedService (record { service = n.service.now; flow = n.flow.now; listeners = n.objects.listeners }) n.reached.configs.all.items n.reached.configs.once.keys n.reached.held.items n.reached.timers n.objects.effects };
 }
 
 fn value_place(values: &Values, value: &Value) -> usize
@@ -85,20 +83,15 @@ impl<'a> NumberedService<'a> {
         ensures flow { IfOk result (λ numbered_service. numbered_service.flow ≡ flow.now) }
         ensures reading { IfOk result (λ numbered_service. IsReading numbered_service) }
     {
-        let listeners = Listeners::of(alloc, service)?;
-        let all = flow.configs(alloc)?;
-        let configs = each_once(alloc, &all)?;
-        let held = held_in_each(alloc, service, flow, configs.as_slice())?;
-        let timers = Timers::of(alloc, service, flow, &all, &configs, &held)?;
+        let reached = Reached::of(alloc, service, flow);
+        let objects = Objects::of(alloc, service);
+        let (reached, objects) = both(reached, objects)?;
         Ok(NumberedService {
             alloc,
             service,
             flow,
-            all,
-            configs,
-            held,
-            listeners,
-            timers,
+            reached,
+            objects,
         })
     }
 
@@ -106,7 +99,7 @@ impl<'a> NumberedService<'a> {
     pub fn read(&self)
         ensures { IsReading self.now }
     {
-        let _ = self.configs.len();
+        let _ = self.reached.configs.once.len();
     }
 
     pub fn allocator(&self) -> Global {
@@ -124,7 +117,7 @@ impl<'a> NumberedService<'a> {
     pub fn configs(&self) -> &[Config]
         ensures { result.now ≡ (flow_read self.now).configs }
     {
-        &self.all
+        &self.reached.configs.all
     }
 
     /// The configuration with this number.
@@ -132,14 +125,14 @@ impl<'a> NumberedService<'a> {
         ensures config { option_copied result ≡ slice_get (settings self.now) number }
         ensures reading { IsReading self.now }
     {
-        self.configs.get_index(number)
+        self.reached.configs.once.get_index(number)
     }
 
     /// The number of the configuration, if it is reached.
     pub fn number_of(&self, config: &Config) -> Option<usize>
         ensures { result ≡ position (same_setting config.now) (settings self.now) }
     {
-        self.configs.get_index_of(config)
+        self.reached.configs.once.get_index_of(config)
     }
 
     /// The number of the configuration; behind all, if it is not reached.
@@ -147,7 +140,7 @@ impl<'a> NumberedService<'a> {
         ensures { result ≡ config_number self.now config.now }
     {
         match self.number_of(config) {
-            None => self.configs.len(),
+            None => self.reached.configs.once.len(),
             Some(number) => number,
         }
     }
@@ -156,7 +149,7 @@ impl<'a> NumberedService<'a> {
     pub fn timers(&self) -> &[SetTimer]
         ensures { result.now ≡ every_timer self.now.service (flow_read self.now) }
     {
-        self.timers.as_slice()
+        self.reached.timers.as_slice()
     }
 
     /// The number of this application with this scene or none, if it is reached.
@@ -175,7 +168,7 @@ impl<'a> NumberedService<'a> {
         ensures { let c = spec_setting app.now (option_copied scene.entry) in
             result ≡ position (same_setting c) (settings self.now) }
     {
-        let configs = self.configs.as_slice();
+        let configs = self.reached.configs.once.as_slice();
         configs
             .iter()
             .position(|config| is_setting(app, scene, config))
@@ -185,7 +178,7 @@ impl<'a> NumberedService<'a> {
     pub fn held_at(&self, number: usize) -> Option<&Held>
         ensures { option_copied result ≡ slice_get (lists_read self.now) number }
     {
-        self.held.get(number)
+        self.reached.held.get(number)
     }
 
     /// What is present in the configuration.
@@ -199,16 +192,28 @@ impl<'a> NumberedService<'a> {
     pub fn object_at(&self, number: usize) -> Option<&ObjRef>
         ensures { option_copied result ≡ slice_get self.now.listeners.objects number }
     {
-        self.listeners.at(number)
+        self.objects.listeners.at(number)
     }
 
     /// The number of the object.
     pub fn object_number(&self, at: &ObjRef) -> usize
         ensures { result ≡ object_number self.now at.now }
     {
-        match self.listeners.number_of(at) {
-            None => self.listeners.len(),
+        match self.objects.listeners.number_of(at) {
+            None => self.objects.listeners.len(),
             Some(number) => number,
+        }
+    }
+
+    /// The effects of the object with this number: those of what is present under its reference, whatever the configuration.
+    pub fn effects(&self, object: usize) -> &EffectRow<'a>
+        requires { has_object self.now object ≡ true }
+        ensures { let r = self.now in (c : _) (p : _)
+            → part_at (object_named r object) (present r.service c) ≡ Some p → result.now ≡ effects p }
+    {
+        match self.objects.effects.at(object) {
+            None => unreachable!(),
+            Some(effects) => effects,
         }
     }
 
@@ -216,14 +221,14 @@ impl<'a> NumberedService<'a> {
     pub fn values(&self, source: &ObjRef, kind: EventType) -> Option<&Values>
         ensures { option_copied result ≡ heard_read self.now source.now kind }
     {
-        self.listeners.values(source, kind)
+        self.objects.listeners.values(source, kind)
     }
 
     /// The number of the value among those.
     pub fn value_number(&self, source: &ObjRef, kind: EventType, value: &Value) -> usize
         ensures { result ≡ place_among (same_value value.now) (values_read self.now source.now kind) }
     {
-        match self.listeners.values(source, kind) {
+        match self.objects.listeners.values(source, kind) {
             None => 0,
             Some(values) => value_place(values, value),
         }
@@ -234,7 +239,8 @@ impl<'a> NumberedService<'a> {
         ensures { let ps = group_parts self.now.service group.now in
             result.now ≡ filter (λ p. waits_for source.now kind p && is_plain (data_of p)) ps }
     {
-        self.listeners
+        self.objects
+            .listeners
             .plain_links(self.service, group, source, kind)
     }
 
@@ -250,7 +256,8 @@ impl<'a> NumberedService<'a> {
             (x : _) → slice_get (values_read self.now source.now kind) value ≡ Some x
             → result.now ≡ filter (λ p. waits_for source.now kind p && has same_value x (data_of p)) ps }
     {
-        self.listeners
+        self.objects
+            .listeners
             .links_with(self.service, group, source, kind, value)
     }
 }

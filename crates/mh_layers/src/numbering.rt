@@ -2,12 +2,10 @@
 //!
 //! Promise: a number is exact. Actions are counted by a list of them, since lists of actions can be shared: nothing but memory
 //! bounds how many there are.
-ghost use Rattle.std.specs.Prelude.{◌≡◌, ◌<◌, ◌+◌, suc, length, IfOk, OnOk};
-ghost use Rattle.mh_laws.specs.Costs.{effect_at};
-ghost use Rattle.mh_layers.specs.Cycle as spec;
+ghost use Rattle.std.specs.Prelude.{◌≡◌, ◌+◌, map, length, IfOk, OnOk};
+ghost use Rattle.mh_layers.specs.NumberedEffects as spec;
 
-use crate::effects::effect_acts;
-use mh_model::{Act, Fixed};
+use mh_model::Act;
 use std::alloc::{AllocError, Global};
 
 /// Puts these actions behind those.
@@ -20,38 +18,16 @@ fn push_acts<'a>(acts: &mut Vec<&'a Act>, more: &'a [Act]) -> Result<(), AllocEr
     Ok(())
 }
 
-/// The actions of the object's effects before the one with this number.
-fn acts_before(alloc: Global, part: &Fixed, number: usize) -> Result<Vec<&Act>, AllocError>
-    ensures { IfOk result (λ acts. suc (length acts.items) ≡ spec.first_number number part.now) }
+/// The number of the first action of each of these effects, from 1 on; behind them that of the action that would come next.
+pub(crate) fn first_numbers(alloc: Global, effects: &[&[Act]]) -> Result<Vec<usize>, AllocError>
+    ensures { IfOk result (λ numbers. numbers.items ≡ spec.first_numbers 1 (map (λ e. e.now) effects.now)) }
 {
     let mut acts = Vec::new(alloc);
-    for place in 0..number {
-        push_acts(&mut acts, effect_acts(part, place))?;
+    let mut numbers = Vec::new(alloc);
+    for effect in effects {
+        numbers.push(acts.len() + 1)?;
+        push_acts(&mut acts, effect)?;
     }
-    Ok(acts)
-}
-
-/// The number of the first action of the object's effect with this number, from 1 on.
-pub(crate) fn first_number(alloc: Global, part: &Fixed, number: usize) -> Result<usize, AllocError>
-    ensures { IfOk result (λ index. index ≡ spec.first_number number part.now) }
-{
-    let acts = acts_before(alloc, part, number)?;
-    Ok(acts.len() + 1)
-}
-
-/// The number of the action of the effect that stands so far behind its first.
-pub(crate) fn number_behind(
-    alloc: Global,
-    part: &Fixed,
-    number: usize,
-    offset: usize,
-) -> Result<usize, AllocError>
-    requires { offset < length (effect_at part.now number) }
-    ensures { IfOk result (λ index. index ≡ spec.first_number number part.now + offset) }
-{
-    let mut acts = acts_before(alloc, part, number)?;
-    let first = acts.len() + 1;
-    push_acts(&mut acts, effect_acts(part, number))?;
-    let _ = acts.len();
-    Ok(first + offset)
+    numbers.push(acts.len() + 1)?;
+    Ok(numbers)
 }

@@ -21,7 +21,6 @@ ghost use Rattle.mh_layers.specs.Numbered.{through};
 ghost use Rattle.mh_layers.specs.Reading.{has_config, has_hearing, has_names, has_object, name, number as number_of, object_named, price_read};
 
 use crate::bounds::InputKind;
-use crate::effects::effect_acts;
 use crate::numbered::NumberedService;
 use crate::numbered::named::{context_at, hearing, object};
 use crate::numbered_node::{Hears, NumberedNode};
@@ -40,10 +39,13 @@ use std::alloc::AllocError;
 /// What an effect of an object comes to: nothing, if it is not active.
 fn effect<M: Meter>(
     walk: &Walk<'_, M>,
+    object: usize,
     at: &ObjRef,
     number: usize,
     sum: M::Sum,
 ) -> Result<M::Sum, AllocError>
+    requires object { has_object walk.now.here.now.reading object ≡ true }
+    requires named { at.now ≡ object_named walk.now.here.now.reading object }
     ensures { let s = walk.now.here.now in let m = through (number_of s.reading) (M.meter walk.now.meter.now) in
         Adds M.seen m (price_read s.reading (Effect s.config at.now number)) sum result }
 {
@@ -51,7 +53,9 @@ fn effect<M: Meter>(
         None => Ok(sum),
         Some(part) => {
             if walk.here.is_active(part) {
-                acts(walk, effect_acts(part, number), sum)
+                let effects = walk.here.numbered_service().effects(object);
+                let own = effects.acts(number);
+                acts(walk, own, sum)
             } else {
                 Ok(sum)
             }
@@ -65,19 +69,19 @@ fn effect_node<M: Meter>(
     numbered_service: &NumberedService<'_>,
     meter: &M,
     config: usize,
-    at: usize,
+    place: usize,
     number: usize,
     sum: M::Sum,
 ) -> Result<M::Sum, AllocError>
     requires config { has_config numbered_service.now config ≡ true }
-    requires object { has_object numbered_service.now at ≡ true }
+    requires object { has_object numbered_service.now place ≡ true }
     ensures { let r = numbered_service.now in let m = through (number_of r) (M.meter meter.now) in
-        Adds M.seen m (price_read r (name r (node_lem.Effect config at number))) sum result }
+        Adds M.seen m (price_read r (name r (node_lem.Effect config place number))) sum result }
 {
     let here = context_at(numbered_service, config);
-    let at = object(numbered_service, at);
+    let at = object(numbered_service, place);
     let walk = Walk { here: &here, meter };
-    effect(&walk, at, number, sum)
+    effect(&walk, place, at, number, sum)
 }
 
 fn fired_node<M: Meter>(

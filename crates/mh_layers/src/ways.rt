@@ -16,7 +16,7 @@ ghost use Rattle.mh_laws.specs.Layers.{IsLayering};
 ghost use Rattle.mh_flow.specs.Solved.{IsFlowOf, flow_in};
 ghost use Rattle.mh_layers.specs.Dearest.{AreDearestWays, configs_for};
 ghost use Rattle.mh_layers.specs.Layered.{root_nodes};
-ghost use Rattle.mh_layers.specs.Layering.{AreLayers, is_laid};
+ghost use Rattle.mh_layers.specs.Layering.{AreLayers, NoneRanked, is_laid};
 ghost use Rattle.mh_layers.specs.Reading.{IsReading, flow_read, kept, price};
 ghost use Rattle.mh_layers.specs.Staging.{AreWays, IsWayIn, IsWayOf};
 ghost use Rattle.mh_layers.specs.Taking.{taken_laid};
@@ -24,8 +24,8 @@ ghost use Rattle.mh_layers.specs.Taking.{taken_laid};
 use crate::bounds::InputKind;
 use crate::cycle::effect_site::copied_config;
 use crate::layers::cost_in_config;
-use crate::laying::roots::{roots, starting};
-use crate::laying::{LayersError, Laying, lay};
+use crate::laying::roots::{lay_roots, starting};
+use crate::laying::{LayersError, Laying};
 use crate::numbered::NumberedService;
 use crate::numbered_node::NumberedNode;
 use crate::ways::dearest::{first_largest, number_at};
@@ -179,6 +179,18 @@ fn ways_in(
     Ok(ways)
 }
 
+/// The dearest way of each kind, where no effect puts itself to work.
+fn ways_by(alloc: Global, numbered_service: &NumberedService<'_>) -> Result<Vec<Way>, LayersError>
+    ensures ways { IfOk result (λ ways. AreDearestWays numbered_service.now.service (flow_read numbered_service.now) ways.items) }
+    ensures cycle { IsErrOf result LayersError.Cycle → NoneRanked (price numbered_service.now) (kept numbered_service.now) }
+{
+    numbered_service.read();
+    match lay_roots(alloc, numbered_service) {
+        Ok(laying) => Ok(ways_in(alloc, numbered_service, &laying)?),
+        Err(why) => Err(why),
+    }
+}
+
 /// What makes the start of a service, and an input of each kind, dear. Where effects put themselves to work there is no
 /// answer but that.
 pub fn dearest_ways(
@@ -191,10 +203,5 @@ pub fn dearest_ways(
     ensures cycle { IsErrOf result LayersError.Cycle → (rank : _) → IsLayering service.now (flow_in service.now flow.now) rank → ⊥ }
 {
     let numbered_service = NumberedService::of(alloc, service, flow)?;
-    numbered_service.read();
-    let nodes = roots(alloc, &numbered_service)?;
-    match lay(alloc, &numbered_service, nodes.as_slice()) {
-        Ok(laying) => Ok(ways_in(alloc, &numbered_service, &laying)?),
-        Err(why) => Err(why),
-    }
+    ways_by(alloc, &numbered_service)
 }

@@ -1,27 +1,30 @@
 //! Effects by their numbers, as causes; and labels for their places.
 //!
 //! Promise: a cause is that of the effect with the number, and labels are in the order of places.
-ghost use Rattle.std.specs.Prelude.{◌≡◌, ◌∷◌, [], map, slice_get, None, true, IfOk, OnOk};
+ghost use Rattle.std.specs.Prelude.{◌≡◌, ◌∷◌, [], suc, get_or, length, map, slice_get, take, None, true, IfOk, OnOk};
+ghost use Rattle.std.specs.List.{flat_map};
 ghost use Rattle.std.specs.Option.{option_copied, option_map, option_map_or};
 ghost use Rattle.indexmap.specs.IndexSet.{insert_all};
-ghost use Rattle.mh_laws.specs.Costs.{effect_at};
+ghost use Rattle.mh_model.specs.Configuration.{present};
+ghost use Rattle.mh_model.specs.Service.{part_at};
+ghost use Rattle.mh_laws.specs.Costs.{effects};
 ghost use Rattle.mh_laws.specs.Each.{Each};
 ghost use Rattle.mh_layers.specs.Cycle as spec;
 ghost use Rattle.mh_layers.specs.Named.{IsEffectKept};
-ghost use Rattle.mh_layers.specs.Reading.{has_config, has_object, kept};
+ghost use Rattle.mh_layers.specs.Reading.{has_config, has_object, kept, object_named};
 ghost use Rattle.mh_layers.specs.EffectSites.{AreEffectSites, cause_by, cause_named, label_in, same_effect_site, effect_site_cmp, effect_site_named, effect_site_number};
 ghost use Rattle.mh_layers.specs.NodeGraph.{label_to};
 
 use crate::cause::Cause;
-use crate::effects::effect_acts;
 use crate::numbered::NumberedService;
+use crate::numbered::effect_row::EffectRow;
+use crate::numbered::named::object;
 use crate::numbered_node::NumberedNode;
-use crate::numbering::first_number;
 use indexmap::IndexSet;
 use mh_base::ObjRef;
 use mh_flow::order::{by_config, by_reference};
 use mh_group::ActionName;
-use mh_model::{Act, Config, Fixed};
+use mh_model::{Act, Config};
 use std::alloc::{AllocError, Global};
 use std::cmp::Ordering;
 
@@ -34,13 +37,30 @@ pub struct EffectSite {
 
 // Causes
 
-/// The number of the first action of the effect with this number, of the object that is present, if one is.
-fn index_in(alloc: Global, part: Option<&Fixed>, number: usize) -> Result<usize, AllocError>
-    ensures { IfOk result (λ index. index ≡ option_map_or (spec.first_number number) (option_copied part.entry) 1) }
+/// The effects of the object with this number, if it is present in the configuration.
+fn effects_in<'a>(
+    numbered_service: &'a NumberedService<'_>,
+    config: &'a Config,
+    place: usize,
+) -> Option<&'a EffectRow<'a>>
+    requires { has_object numbered_service.now place ≡ true }
+    ensures { let r = numbered_service.now in
+        option_copied result ≡ option_map effects (part_at (object_named r place) (present r.service config.now)) }
 {
-    match part {
-        None => Ok(1),
-        Some(part) => first_number(alloc, part, number),
+    let present = numbered_service.present(config);
+    match present.find(object(numbered_service, place)) {
+        None => None,
+        Some(_) => Some(numbered_service.effects(place)),
+    }
+}
+
+/// The number of the first action of the effect with this number, if there are effects.
+fn index_in(effects: Option<&EffectRow<'_>>, number: usize) -> usize
+    ensures { result ≡ option_map_or (λ es. suc (length (flat_map (λ e. e) (take number es)))) (option_copied effects.entry) 1 }
+{
+    match effects {
+        None => 1,
+        Some(effects) => effects.first(number),
     }
 }
 
@@ -54,12 +74,12 @@ fn first_name(acts: &[Act]) -> Option<ActionName>
     }
 }
 
-fn action_in(part: Option<&Fixed>, number: usize) -> Option<ActionName>
-    ensures { result ≡ option_map_or (λ p. option_map (λ a. a.name) (slice_get (effect_at p number) 0)) (option_copied part.entry) None }
+fn action_in(effects: Option<&EffectRow<'_>>, number: usize) -> Option<ActionName>
+    ensures { result ≡ option_map_or (λ es. option_map (λ a. a.name) (slice_get (get_or es number []) 0)) (option_copied effects.entry) None }
 {
-    match part {
+    match effects {
         None => None,
-        Some(part) => first_name(effect_acts(part, number)),
+        Some(effects) => first_name(effects.acts(number)),
     }
 }
 
@@ -79,17 +99,18 @@ pub(crate) fn copied_reference(at: &ObjRef) -> Result<ObjRef, AllocError>
 pub(crate) fn cause_at(
     numbered_service: &NumberedService<'_>,
     config: &Config,
-    at: &ObjRef,
+    place: usize,
     number: usize,
 ) -> Result<Cause, AllocError>
-    ensures { IfOk result (λ cause. cause ≡ spec.cause_of numbered_service.now.service (record { config = config.now; object = at.now; number = number })) }
+    requires { has_object numbered_service.now place ≡ true }
+    ensures { let r = numbered_service.now in
+        IfOk result (λ cause. cause ≡ spec.cause_of r.service (record { config = config.now; object = object_named r place; number = number })) }
 {
-    let present = numbered_service.present(config);
-    let part = present.find(at);
-    let action = action_in(part, number);
-    let index = index_in(numbered_service.allocator(), part, number)?;
+    let effects = effects_in(numbered_service, config, place);
+    let action = action_in(effects, number);
+    let index = index_in(effects, number);
     let config = copied_config(config)?;
-    let at = copied_reference(at)?;
+    let at = copied_reference(object(numbered_service, place))?;
     Ok(Cause {
         config,
         at,
@@ -103,20 +124,17 @@ pub(crate) fn cause_at(
 fn cause_by(
     numbered_service: &NumberedService<'_>,
     config: usize,
-    object: usize,
+    place: usize,
     number: usize,
 ) -> Result<Cause, AllocError>
     requires config { has_config numbered_service.now config ≡ true }
-    requires object { has_object numbered_service.now object ≡ true }
-    ensures { IfOk result (λ cause. cause ≡ cause_by numbered_service.now config object number) }
+    requires object { has_object numbered_service.now place ≡ true }
+    ensures { IfOk result (λ cause. cause ≡ cause_by numbered_service.now config place number) }
 {
     let Some(config) = numbered_service.config_at(config) else {
         unreachable!();
     };
-    let Some(at) = numbered_service.object_at(object) else {
-        unreachable!();
-    };
-    let cause = cause_at(numbered_service, config, at, number)?;
+    let cause = cause_at(numbered_service, config, place, number)?;
     Ok(cause)
 }
 
@@ -130,10 +148,10 @@ pub(crate) fn cause_of(
 {
     numbered_service.read();
     match node {
-        NumberedNode::Effect(config, object, number) => cause_by(
+        NumberedNode::Effect(config, place, number) => cause_by(
             numbered_service,
             *config,
-            *object,
+            *place,
             *number,
         ),
         _ => unreachable!(),

@@ -1,70 +1,55 @@
 //! The nodes that are laid first: of the start, of all inputs, and of all active effects that have actions.
 //!
 //! Promise: each of them is there, in the order of configurations and of what is present.
-ghost use Rattle.std.specs.Prelude.{◌≡◌, ◌++◌, ◌∷◌, [], length, map, filter, IfOk, OnOk};
-ghost use Rattle.std.specs.List.{flat_map, range_with_len};
+ghost use Rattle.std.specs.Prelude.{◌≡◌, ◌++◌, ◌∷◌, [], map, filter, not, true, IfOk, IsErrOf, OnOk};
+ghost use Rattle.std.specs.List.{flat_map, list_all};
 ghost use Rattle.mh_model.specs.Configuration.{starting as starting_lem};
+ghost use Rattle.mh_model.specs.Step.{is_empty};
 ghost use Rattle.mh_laws.specs.Active.{is_active};
-ghost use Rattle.mh_laws.specs.Costs.{effects};
-ghost use Rattle.mh_layers.specs.Layered.{active_nodes, has_actions, input_nodes, nodes_active, nodes_at, kinds, root_nodes};
-ghost use Rattle.mh_layers.specs.Reading.{config_number, flow_read, object_number};
+ghost use Rattle.mh_layers.specs.Layered.{active_nodes, acting_among, input_nodes, nodes_active, nodes_at, kinds, root_nodes};
+ghost use Rattle.mh_layers.specs.Layering.{AreLayers, NoneRanked, is_laid};
+ghost use Rattle.mh_layers.specs.Looping.{HasLoop};
+ghost use Rattle.mh_layers.specs.Reading.{config_number, flow_read, kept, object_number, price};
 ghost use Rattle.mh_layers.specs.declared.numbered_node.NumberedNode.TheVariants as node;
 
 use crate::bounds::InputKind;
-use crate::effects::effect_acts;
+use crate::effects::effects_of;
+use crate::laying::{LayersError, Laying, lay};
 use crate::numbered::NumberedService;
 use crate::numbered_node::NumberedNode;
-use crate::slots::slot_count;
 use mh_flow::{Equipped, Present};
-use mh_model::{Config, Fixed, FixedPart};
+use mh_model::{Act, Config, Fixed, FixedPart};
 use std::alloc::{AllocError, Global};
 
-/// How many effects an object has.
-fn effect_count(alloc: Global, part: &Fixed) -> Result<usize, AllocError>
-    ensures { IfOk result (λ n. n ≡ length (effects part.now)) }
-{
-    let slots = slot_count(alloc, part)?;
-    Ok(slots + 3)
-}
-
-/// Whether the object's effect with this number has actions: one without costs nothing, and puts nothing to work.
-fn has_actions(part: &Fixed, number: usize) -> bool
-    ensures { result ≡ has_actions part.now number }
-{
-    !effect_acts(part, number).is_empty()
-}
-
-/// Puts the node of the object's effect with this number, if that has actions.
+/// Puts the node of the effect with this number, if it has actions: one without costs nothing, and puts nothing to work.
 fn push_if_acting(
     nodes: &mut Vec<NumberedNode>,
-    numbered_service: &NumberedService<'_>,
     config: usize,
-    part: &Fixed,
+    object: usize,
     number: usize,
+    acts: &[Act],
 ) -> Result<(), AllocError>
-    ensures { let acting = filter (has_actions part.now) (number ∷ []) in
-        OnOk result (nodes.new.items ≡ nodes.old.items ++ map (λ n. node.Effect config (object_number numbered_service.now part.now.key) n) acting) }
+    ensures { let acting = filter (λ _. not (is_empty acts.now)) (number ∷ []) in
+        OnOk result (nodes.new.items ≡ nodes.old.items ++ map (λ n. node.Effect config object n) acting) }
 {
-    if has_actions(part, number) {
-        let object = numbered_service.object_number(&part.key);
+    if !acts.is_empty() {
         nodes.push(NumberedNode::Effect(config, object, number))?;
     }
     Ok(())
 }
 
-/// Puts the nodes of those of the object's first effects that have actions.
+/// Puts the nodes of those of an object's effects that have actions.
 fn push_acting(
     nodes: &mut Vec<NumberedNode>,
-    numbered_service: &NumberedService<'_>,
     config: usize,
-    part: &Fixed,
-    count: usize,
+    object: usize,
+    effects: &[&[Act]],
 ) -> Result<(), AllocError>
-    ensures { let acting = filter (has_actions part.now) (range_with_len 0 count) in
-        OnOk result (nodes.new.items ≡ nodes.old.items ++ map (λ n. node.Effect config (object_number numbered_service.now part.now.key) n) acting) }
+    ensures { let acting = acting_among (map (λ e. e.now) effects.now) in
+        OnOk result (nodes.new.items ≡ nodes.old.items ++ map (λ n. node.Effect config object n) acting) }
 {
-    for number in 0..count {
-        push_if_acting(nodes, numbered_service, config, part, number)?;
+    for number in 0..effects.len() {
+        push_if_acting(nodes, config, object, number, effects[number])?;
     }
     Ok(())
 }
@@ -77,8 +62,10 @@ fn push_part(
 ) -> Result<(), AllocError>
     ensures { OnOk result (nodes.new.items ≡ nodes.old.items ++ nodes_at numbered_service.now config part.now) }
 {
-    let count = effect_count(numbered_service.allocator(), part)?;
-    push_acting(nodes, numbered_service, config, part, count)
+    let effects = effects_of(numbered_service.allocator(), part)?;
+    let object = numbered_service.object_number(&part.key);
+    push_acting(nodes, config, object, effects.as_slice())?;
+    Ok(())
 }
 
 /// Puts the nodes of the effects of those of these parts that are active.
@@ -194,4 +181,19 @@ pub(crate) fn roots(
     push_inputs(&mut nodes, numbered_service)?;
     push_effects(&mut nodes, numbered_service)?;
     Ok(nodes)
+}
+
+/// The layers of these nodes, and of all that they count.
+pub(crate) fn lay_roots(
+    alloc: Global,
+    numbered_service: &NumberedService<'_>,
+) -> Result<Laying, LayersError>
+    ensures layers { IfOk result (λ laying. AreLayers (price numbered_service.now) (kept numbered_service.now) laying) }
+    ensures laid { IfOk result (λ laying. list_all (is_laid laying) (root_nodes numbered_service.now) ≡ true) }
+    ensures cycle { IsErrOf result LayersError.Cycle → NoneRanked (price numbered_service.now) (kept numbered_service.now) }
+    ensures looped { IsErrOf result LayersError.Cycle → HasLoop (price numbered_service.now) (kept numbered_service.now) }
+{
+    numbered_service.read();
+    let nodes = roots(alloc, numbered_service)?;
+    lay(alloc, numbered_service, nodes.as_slice())
 }

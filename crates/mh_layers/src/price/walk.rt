@@ -11,10 +11,10 @@ ghost use Rattle.mh_layers.specs.CostNodes.{effect, group_effect as group_effect
 ghost use Rattle.mh_layers.specs.Numbered.{through};
 ghost use Rattle.mh_layers.specs.Reading.{dealt_by, fired_by, number as number_of, object_number, there_by};
 
+use crate::effects::slot_count;
 use crate::numbered::at::At;
 use crate::numbered_node::{Hears, NumberedNode};
 use crate::price::meter::Meter;
-use crate::slots::slot_count;
 use mh_base::{EventType, GroupName, ObjRef};
 use mh_model::Fixed;
 use mh_model::parts::group_ref;

@@ -14,14 +14,12 @@ ghost use Rattle.mh_layers.specs.Staging.{AreStagesFrom, IsCostly, IsKnown, IsNe
 ghost use Rattle.mh_layers.specs.EffectSites.{cause_named, effect_named};
 ghost use Rattle.mh_layers.specs.Trails.{IsActive};
 
-use crate::arrows::{config_of, number_of, part_of};
-use crate::effects::effect_acts;
+use crate::arrows::{config_of, effects_at, number_of};
 use crate::laying::Laying;
 use crate::laying::costs::Costs;
 use crate::numbered::NumberedService;
 use crate::numbered::at::At;
 use crate::numbered_node::NumberedNode;
-use crate::numbering::number_behind;
 use crate::price::meters::KnownCosts;
 use crate::price::walk::Walk;
 use crate::ways::caused::reached_from;
@@ -129,9 +127,9 @@ fn dearest_part(
         IfOk result (IsPart numbered_service.now laying.now x.config (acts_of numbered_service.now.service x)) }
 {
     let here = config_of(numbered_service, node);
-    let fixed = part_of(&here, node);
+    let effects = effects_at(&here, node);
     let number = number_of(node);
-    let acts = effect_acts(fixed, number);
+    let acts = effects.acts(number);
     let part = dearest_act(alloc, &here, laying.costs(), acts)?;
     Ok(part)
 }
@@ -139,21 +137,16 @@ fn dearest_part(
 // Stages
 
 /// The number of the action of the effect that stands so far behind its first.
-fn index_of(
-    alloc: Global,
-    numbered_service: &NumberedService<'_>,
-    node: &NumberedNode,
-    offset: usize,
-) -> Result<usize, AllocError>
+fn index_of(numbered_service: &NumberedService<'_>, node: &NumberedNode, offset: usize) -> usize
     requires reading { IsReading numbered_service.now }
     requires active { IsActive numbered_service.now node.now }
     requires within { offset < length (acts_of numbered_service.now.service (effect_named numbered_service.now node.now)) }
-    ensures { IfOk result (λ index. index ≡ (cause_named numbered_service.now node.now).index + offset) }
+    ensures { result ≡ (cause_named numbered_service.now node.now).index + offset }
 {
     let here = config_of(numbered_service, node);
-    let fixed = part_of(&here, node);
-    let index = number_behind(alloc, fixed, number_of(node), offset)?;
-    Ok(index)
+    let effects = effects_at(&here, node);
+    let number = number_of(node);
+    effects.behind_first(number, offset)
 }
 
 /// The stage of this effect.
@@ -170,7 +163,7 @@ fn stage_of(
     ensures { IfOk result (λ next. IsStageBy numbered_service.now laying.now dearest next) }
 {
     let part = dearest_part(alloc, numbered_service, laying, &dearest.node)?;
-    let index = index_of(alloc, numbered_service, &dearest.node, part.offset)?;
+    let index = index_of(numbered_service, &dearest.node, part.offset);
     Ok(Next {
         node: dearest.node,
         stage: Stage {

@@ -1,19 +1,16 @@
-use Rattle.std.proofs.Common.{◌∙◌, refl, subst, sym}
-use Rattle.mh_laws.specs.Each.{Each}
-use Rattle.mh_layers.specs.declared.laying.LayersError.TheVariants as error
-use Rattle.mh_layers.specs.Reading.{kept}
-use Rattle.mh_layers.proofs.LayeredLemmas.{counted_kept, none_read, other_err}
-use Rattle.mh_layers.proofs.RootLemmas.{roots_kept}
+use Rattle.std.proofs.Common.{IfOk}
+use Rattle.mh_flow.specs.Solved.{flow_in}
+use Rattle.mh_layers.specs.Dearest.{AreDearestWays}
+use Rattle.mh_layers.proofs.LayeredLemmas.{none_read}
+use Rattle.mh_layers.proofs.WalkLemmas.{turned}
 use Rattle.mh_layers.proofs.ways.dearest_ways.Goals as goal
 
-pub lay-requires-clause-counted : goal.lay-requires-clause-counted
-lay-requires-clause-counted c = counted_kept c.in_ok-numbered_service.numbered_service c.in_ok-numbered_service.ensures.reading
-
-pub lay-requires-clause-kept : goal.lay-requires-clause-kept
-lay-requires-clause-kept c =
-    subst (Each (kept c.in_ok-numbered_service.numbered_service)) (sym (c.as_slice.ensures.value ∙ c.in_ok-nodes.ensures)) (roots_kept c.in_ok-numbered_service.numbered_service c.in_ok-numbered_service.ensures.reading)
+pub returns-clause-ways : goal.returns-clause-ways
+returns-clause-ways c =
+    turned (λ v f. IfOk c.ways_by.result (λ ways. AreDearestWays v (flow_in v f) ways.items))
+    c.in_ok-numbered_service.numbered_service c.args.service.now c.args.flow.now c.in_ok-numbered_service.ensures.service c.in_ok-numbered_service.ensures.flow c.ways_by.ensures.ways
 
 pub returns-clause-cycle : goal.returns-clause-cycle
 returns-clause-cycle c = λ h rank layering.
     none_read c.in_ok-numbered_service.numbered_service c.args.service.now c.args.flow.now c.in_ok-numbered_service.ensures.service c.in_ok-numbered_service.ensures.flow c.in_ok-numbered_service.ensures.reading
-    (c.lay.ensures.cycle (other_err _ c.lay.result c.in-Err.why error.Cycle refl h c.in-Err.is)) rank layering
+    (c.ways_by.ensures.cycle h) rank layering

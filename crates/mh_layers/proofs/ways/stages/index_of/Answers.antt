@@ -1,14 +1,27 @@
-use Rattle.mh_layers.proofs.WorthLemmas.{index_told, offset_within, part_here}
+use Rattle.std.specs.Prelude.{◌<◌, ◌+◌, [], List, get_or, length, suc, take}
+use Rattle.std.specs.List.{flat_map}
+use Rattle.std.proofs.Common.{ap, ◌∙◌, subst, sym}
+use Rattle.mh_model.specs.declared.act.Act.{Act}
+use Rattle.mh_layers.proofs.ActiveLemmas.{part_active, part_at_there}
+use Rattle.mh_layers.proofs.WorthLemmas.{index_told, offset_within}
 use Rattle.mh_layers.proofs.ways.stages.index_of.Goals as goal
 
-pub number_behind-requires : goal.number_behind-requires
-number_behind-requires c =
-    offset_within c.args.numbered_service.now c.args.node.now c.part_of-fixed.result.now c.number_of.result c.args.offset
-    (part_here c.args.numbered_service.now c.args.node.now c.config_of-here.result c.part_of-fixed.result.now c.config_of-here.ensures c.part_of-fixed.ensures)
-    c.number_of.ensures c.requires.within
+pub behind_first-requires : goal.behind_first-requires
+behind_first-requires c =
+    let r = c.args.numbered_service.now in
+    let k = c.args.node.now in
+    let n = c.number_of-number.result in
+    let part = part_active r c.requires.reading k c.requires.active in
+    let own = c.effects_at-effects.ensures part.0 (part_at_there r k c.config_of-here.result part.0 c.config_of-here.ensures part.1) in
+    subst (λ (es : List (List Act)). c.args.offset < length (get_or es n [])) (sym own)
+    (offset_within r k part.0 n c.args.offset part.1 c.number_of-number.ensures c.requires.within)
 
 pub returns : goal.returns
 returns c =
-    index_told c.args.numbered_service.now c.args.node.now c.part_of-fixed.result.now c.number_of.result c.args.offset _
-    (part_here c.args.numbered_service.now c.args.node.now c.config_of-here.result c.part_of-fixed.result.now c.config_of-here.ensures c.part_of-fixed.ensures)
-    c.number_of.ensures c.in_ok-index.ensures
+    let r = c.args.numbered_service.now in
+    let k = c.args.node.now in
+    let n = c.number_of-number.result in
+    let part = part_active r c.requires.reading k c.requires.active in
+    let own = c.effects_at-effects.ensures part.0 (part_at_there r k c.config_of-here.result part.0 c.config_of-here.ensures part.1) in
+    index_told r k part.0 n c.args.offset _ part.1 c.number_of-number.ensures
+    (c.behind_first.ensures ∙ ap (λ (es : List (List Act)). suc (length (flat_map (λ (e : List Act). e) (take n es))) + c.args.offset) own)
