@@ -10,11 +10,13 @@ use Rattle.mh_base.specs.declared.obj_ref.ObjRef.{ObjRef}
 use Rattle.mh_model.specs.declared.act.Act.{Act}
 use Rattle.mh_model.specs.declared.config.Config.{Config}
 use Rattle.mh_model.specs.declared.object.Fixed.{Fixed}
-use Rattle.mh_model.specs.Configuration.{is_service, present, scene_parts}
+use Rattle.mh_model.specs.Configuration.{has_keys, is_service, present, scene_parts}
 use Rattle.mh_model.specs.Reference.{same_ref}
 use Rattle.mh_model.specs.Service.{Service, group_parts, is_in, part_at}
 use Rattle.mh_model.proofs.ListLemmas.{found}
 use Rattle.mh_model.proofs.ServiceLemmas.{group_parts_in, same_ref-same}
+use Rattle.mh_flow.proofs.PlaceLemmas.{get_member}
+use Rattle.mh_flow.proofs.PresentLemmas.{own_found}
 use Rattle.mh_laws.specs.Costs.{effect_at, effects}
 use Rattle.mh_layers.specs.declared.numbered_node.NumberedNode.{NumberedNode}
 use Rattle.mh_layers.specs.Applied.{number_in}
@@ -124,3 +126,11 @@ asked_there f (Some p) d = refl
 -- the actions of an effect, where these are the effects of its object
 pub acts_named : (k : NumberedNode) (p : Fixed) (es : List (List Act)) (n : ℕ) (acts : List Act) → es ≡ effects p → n ≡ number_in k → acts ≡ get_or es n [] → acts ≡ effect_at p (number_in k)
 acts_named k p es n acts own number are = are ∙ (λ i. get_or (own i) (number i) [])
+
+-- what stands in its group under the reference of an object is what the service has there
+pub own_at : (v : Service) (r : ObjRef) (i : ℕ) (p : Fixed) → has_keys v ≡ true → slice_get (group_parts v r.group) i ≡ Some p → same_ref r p.key ≡ true → part_at r (group_parts v r.group) ≡ Some p
+own_at v r i p keys at is =
+    let among = get_member (group_parts v r.group) i p at in
+    let found : part_at p.key (group_parts v r.group ++ []) ≡ Some p = own_found v (record { app = r.group; scene = None }) p keys among in
+    subst (λ (x : ObjRef). part_at x (group_parts v r.group) ≡ Some p) (sym (same_ref-same r p.key is))
+    (subst (λ (ps : List Fixed). part_at p.key ps ≡ Some p) (append-nil (group_parts v r.group)) found)

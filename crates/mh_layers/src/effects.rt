@@ -35,7 +35,7 @@ fn push_members<'a>(effects: &mut Vec<&'a [Act]>, members: &'a [Member]) -> Resu
 pub(crate) fn effects_of(alloc: Global, part: &Fixed) -> Result<Vec<&[Act]>, AllocError>
     ensures { IfOk result (λ found. map (λ e. e.now) found.items ≡ effects part.now) }
 {
-    let mut effects = Vec::new(alloc);
+    let mut effects = Vec::with_capacity(alloc, 3)?;
     effects.push(effect_of(part, Attribute::OnStartUp))?;
     effects.push(effect_of(part, Attribute::OnCloseDown))?;
     effects.push(effect_of(part, Attribute::LinkEffect))?;

@@ -23,7 +23,7 @@ pub(crate) fn first_numbers(alloc: Global, effects: &[&[Act]]) -> Result<Vec<usi
     ensures { IfOk result (λ numbers. numbers.items ≡ spec.first_numbers 1 (map (λ e. e.now) effects.now)) }
 {
     let mut acts = Vec::new(alloc);
-    let mut numbers = Vec::new(alloc);
+    let mut numbers = Vec::with_capacity(alloc, effects.len() + 1)?;
     for effect in effects {
         numbers.push(acts.len() + 1)?;
         push_acts(&mut acts, effect)?;
