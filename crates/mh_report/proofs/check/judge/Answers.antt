@@ -9,3 +9,9 @@ returns-in-Ok-clause-written g c =
 pub returns-in-Ok-clause-begun : goal.returns-in-Ok-clause-begun
 returns-in-Ok-clause-begun g c =
     cut _ _ _ c.accept.result _ status.Good (accepted_so _ _ _ c.in-Ok.ensures.same c.in-Ok.ensures.verified c.bounds-bounds.ensures.same) c.accept.ensures.cut
+
+pub returns-in-Err-clause-written : goal.returns-in-Err-clause-written
+returns-in-Err-clause-written g c = c.answer_refusal-status.ensures.written c.args.service c.in-Err.ensures.told
+
+pub returns-in-Err-clause-begun : goal.returns-in-Err-clause-begun
+returns-in-Err-clause-begun g c = c.answer_refusal-status.ensures.begun c.args.service c.in-Err.ensures.told
