@@ -1,42 +1,58 @@
--- A search that has passed some octets.
-use Rattle.std.proofs.Common.{◌≡◌, ℕ, suc, ◌+◌, ◌≤◌, Bool, true, false, if◌then◌else◌, List, ◌∷◌, take, length, bytes_eq, Option, Some, None, refl, ap, ◌∙◌, sym, arith, length-take}
+-- The first place at which a target stands is the one that a search finds.
+use Rattle.std.proofs.Common.{◌≡◌, ◌≢◌, ℕ, zero, suc, ◌+◌, ◌<◌, ◌≤◌, Bool, true, false, if◌then◌else◌, List, [], ◌∷◌, take, drop, length, bytes_eq, Option, Some, None, refl, ap, ◌∙◌, sym, arith, length-take, length-drop, ⊎_elim}
+use Rattle.std.proofs.lemmas.Bool.{cases_Bool, cases_eq, false≢true}
 use Rattle.std.proofs.lemmas.Slice.Eq.{bytes_eq-Decides}
 use Rattle.std.specs.Option.{option_map}
+use Rattle.memchr.specs.Find.{FindsNeedle, OccursAt}
+use Rattle.memchr.proofs.lemmas.MatchLemmas.{OccursAt-part, OccursAt-from_part}
 use Rattle.mh_model.specs.Programs.{searched}
 
--- what is found behind so many octets
-abbrev pub later : ℕ → Option ℕ → Option ℕ
-later seen found = option_map (λ n. n + seen) found
+-- the target stands behind so many octets
+abbrev pub Stands : List ℕ → List ℕ → ℕ → Type 0
+Stands what os n = take (length what) (drop n os) ≡ what
 
-later_suc : (seen : ℕ) (found : Option ℕ) → later seen (option_map suc found) ≡ later (seen + 1) found
-later_suc seen None = refl
-later_suc seen (Some n) = ap Some (omega arith)
+here : (what : List ℕ) (c : ℕ) (cs : List ℕ) (b : Bool) → b ≡ true → (if b then Some 0 else option_map suc (searched what cs)) ≡ Some 0
+here what c cs true e = refl
+here what c cs false e = absurd (false≢true e)
 
-pub later_none : (found : Option ℕ) → later 0 found ≡ found
-later_none None = refl
-later_none (Some n) = ap Some (omega arith)
+passed : (what : List ℕ) (c : ℕ) (cs : List ℕ) (b : Bool) → b ≡ false → (if b then Some 0 else option_map suc (searched what cs)) ≡ option_map suc (searched what cs)
+passed what c cs false e = refl
+passed what c cs true e = absurd (false≢true (sym e))
 
-first : {A : Type 0} (b : Bool) (x y : A) → b ≡ true → (if b then x else y) ≡ x
-first true x y e = refl
-first false x y e = absurd cc
+-- it stands not at the front
+apart : (what os : List ℕ) → take (length what) os ≢ what → bytes_eq (take (length what) os) what ≡ false
+apart what os differs = ⊎_elim (λ yes. absurd (differs ((bytes_eq-Decides _ what).0 yes))) (λ is. is) (cases_Bool (bytes_eq (take (length what) os) what))
 
-second : {A : Type 0} (b : Bool) (x y : A) → b ≡ false → (if b then x else y) ≡ y
-second true x y e = absurd cc
-second false x y e = refl
+nowhere : (what os : List ℕ) → ((k : ℕ) → k < length os → ¬ Stands what os k) → searched what os ≡ None
+nowhere what [] none = refl
+nowhere what (c ∷ cs) none =
+    passed what c cs _ (apart what (c ∷ cs) (none 0 (omega arith)))
+    ∙ ap (option_map suc) (nowhere what cs (λ k l. none (suc k) (omega (arith, l))))
 
-pub passed : (what : List ℕ) (c : ℕ) (cs : List ℕ) (seen : ℕ) (b : Bool) → b ≡ bytes_eq (take (length what) (c ∷ cs)) what → b ≡ false → later (seen + 1) (searched what cs) ≡ later seen (searched what (c ∷ cs))
-passed what c cs seen b e f = sym (ap (later seen) (second _ (Some 0) (option_map suc (searched what cs)) (sym e ∙ f)) ∙ later_suc seen (searched what cs))
+first : (what os : List ℕ) (n : ℕ) → n < length os → ((k : ℕ) → k < n → ¬ Stands what os k) → Stands what os n → searched what os ≡ Some n
+first what [] n l none is = absurd (omega (arith, l))
+first what (c ∷ cs) zero l none is = here what c cs _ ((bytes_eq-Decides _ what).1 is)
+first what (c ∷ cs) (suc n) l none is =
+    passed what c cs _ (apart what (c ∷ cs) (none 0 (omega arith)))
+    ∙ ap (option_map suc) (first what cs n (omega (arith, l)) (λ k m. none (suc k) (omega (arith, m))) is)
 
-pub here : (what : List ℕ) (c : ℕ) (cs : List ℕ) (seen : ℕ) (b : Bool) → b ≡ bytes_eq (take (length what) (c ∷ cs)) what → b ≡ true → later seen (searched what (c ∷ cs)) ≡ Some seen
-here what c cs seen b e f = ap (later seen) (first _ (Some 0) (option_map suc (searched what cs)) (sym e ∙ f)) ∙ ap Some (omega arith)
+-- where it stands it fits
+occurs : (what os : List ℕ) (k : ℕ) → k < length os → Stands what os k → OccursAt os what k
+occurs what os k l is =
+    let cut = sym (length-take (length what) (drop k os)) ∙ ap length is in
+    OccursAt-from_part os what k (omega (arith, l, cut, length-drop k os)) is
 
--- as long as the target and longer
-same_length : (xs ys : List ℕ) → xs ≡ ys → length xs ≡ length ys
-same_length xs ys e = ap length e
+-- a target without octets stands in front of the first one
+inside : (what os : List ℕ) (n : ℕ) → 0 < length os → ((k : ℕ) → k < n → ¬ OccursAt os what k) → n + length what ≤ length os → n < length os
+inside what os n some none fits =
+    ⊎_elim
+    (λ end. absurd (none 0 (omega (arith, end, some)) (record { fits = omega (arith, end, fits); reads = λ j l. absurd (omega (arith, end, fits, l)) })))
+    (λ other. omega (arith, other, fits))
+    (cases_eq n (length os))
 
-pub fits : (what os : List ℕ) (b : Bool) → b ≡ bytes_eq (take (length what) os) what → b ≡ true → length what ≤ length os
-fits what os b e f =
-    let same = (bytes_eq-Decides (take (length what) os) what).0 (sym e ∙ f) in
-    let long = same_length _ _ same in
-    let cut = length-take (length what) os in
-    omega (arith, long, cut)
+pub is_searched : (what os : List ℕ) (r : Option ℕ) → 0 < length os → FindsNeedle os what 0 r → r ≡ searched what os
+is_searched what os None some h = sym (nowhere what os (λ k l is. h k (omega arith) (omega (arith, l)) (occurs what os k l is)))
+is_searched what os (Some n) some h =
+    let before = λ (k : ℕ) (l : k < n). h.0.before k (omega arith) l in
+    let low = inside what os n some before h.1.fits in
+    sym (first what os n low (λ k l is. before k l (occurs what os k (omega (arith, l, low)) is)) (OccursAt-part os what n h.1))

@@ -1,7 +1,9 @@
 //! Parts of octet strings, and searching in them. Octets are counted from 1, and a place before the
 //! first is the first.
-ghost use Rattle.std.specs.Prelude.{◌≡◌, ◌+◌, ◌≤◌, ◌<◌, ◌^◌, take, drop, length, IfSome, bytes_eq};
+ghost use Rattle.std.specs.Prelude.{◌≡◌, ◌+◌, ◌≤◌, ◌<◌, ◌^◌, take, drop, length, IfSome};
 ghost use Rattle.mh_model.specs.Programs as programs;
+
+use memchr::memmem;
 
 /// A count as a number of 32 bits, the largest where it is larger.
 pub(crate) fn counted(count: u64) -> i32
@@ -59,29 +61,17 @@ pub(crate) fn substring(octets: &[u8], begin: i32, end: i32) -> &[u8]
     behind(front(octets, up_to(end)), in_front(begin))
 }
 
-/// How many octets stand in front of the first place at which the target does.
-#[tactic(auto, using(crate::proofs::SearchLemmas::later_none, crate::proofs::SearchLemmas::passed, crate::proofs::SearchLemmas::here, crate::proofs::SearchLemmas::fits))]
+/// How many octets stand in front of the first place at which the target does. In no octets nothing is found, not even a
+/// target without octets. It takes as long as target and octets are, whatever they are, and no memory.
+#[tactic(auto, using(crate::proofs::SearchLemmas::is_searched))]
 pub(crate) fn searched(target: &[u8], octets: &[u8]) -> Option<usize>
     ensures found { result ≡ programs.searched target.now octets.now }
     ensures bounded { IfSome result (λ n. n + length target.now ≤ length octets.now) }
 {
-    let mut rest = octets;
-    let mut seen = 0;
-    while let [_, others @ ..] = rest {
-        if is_at(target, rest) {
-            return Some(seen);
-        }
-        rest = others;
-        seen += 1;
+    if octets.is_empty() {
+        return None;
     }
-    None
-}
-
-/// Whether octets begin with the target.
-fn is_at(target: &[u8], octets: &[u8]) -> bool
-    ensures { result ≡ bytes_eq (take (length target.now) octets.now) target.now }
-{
-    front(octets, target.len()) == target
+    memmem::find(octets, target)
 }
 
 /// The same from a place on.
