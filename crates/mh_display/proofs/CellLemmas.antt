@@ -1,9 +1,8 @@
 -- Cells by their rows and columns, and what painting from the top down makes of them.
-use Rattle.std.specs.Prelude.{◌≡◌, ℕ, ◌+◌, ◌*◌, ◌/◌, ◌%◌, ◌<◌, ◌≤◌, Bool, true, false, List, ◌∷◌, if◌then◌else◌, Option, Some, None, pos, refl}
+use Rattle.std.specs.Prelude.{◌≡◌, ℕ, ◌+◌, ◌*◌, ◌/◌, ◌%◌, ◌<◌, Bool, true, false, List, ◌∷◌, if◌then◌else◌, Option, Some, None, pos, refl}
 use Rattle.std.proofs.Common.{ap, ◌∙◌, sym, arith}
 use Rattle.mh_model.specs.declared.picture.cell.Cell.{Cell}
 use Rattle.mh_model.specs.Looks.{Paint, nothing}
-use Rattle.mh_model.specs.Picture.{back_under, cell_under}
 use Rattle.mh_display.specs.declared.marked.Marked.{Marked}
 use Rattle.mh_display.specs.declared.panel.Panel.{Panel}
 use Rattle.mh_display.specs.Painting.{put, seen}

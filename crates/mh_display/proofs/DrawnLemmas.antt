@@ -26,7 +26,7 @@ found_to : (n m : ℕ) (p : ℕ → Bool) → m ≤ n → p m ≡ true → some_
 found_to zero m p le holds = subst (λ (k : ℕ). p k ≡ true) (omega (arith, le)) holds
 found_to (suc n) m p le holds = grind (arith, found_to n m p)
 
-not_true : (b : Bool) → (b ≡ true → false ≡ true) → b ≡ false
+pub not_true : (b : Bool) → (b ≡ true → false ≡ true) → b ≡ false
 not_true true f = sym (f refl)
 not_true false f = refl
 
@@ -40,13 +40,13 @@ only_one n k p only = decide (nat_le k n) (p k) refl refl
     decide false b above fails = none_to n p (λ m l. not_true (p m) (λ h. sym above ∙ le-leb k n (omega (arith, l, only m l h))))
 
 -- forwards a step goes on by 1, and backwards by -1
-forwards : (n k : ℕ) → 0 < n → int_div_euclid ((pos (2 * k) *ℤ pos n) +ℤ pos n) (pos (2 * n)) ≡ pos k
+pub forwards : (n k : ℕ) → 0 < n → int_div_euclid ((pos (2 * k) *ℤ pos n) +ℤ pos n) (pos (2 * n)) ≡ pos k
 forwards n k some =
     let product : (2 * k) * n + n ≡ k * (2 * n) + n = omega arith in
     ap (λ (z : ℤ). int_div_euclid (z +ℤ pos n) (pos (2 * n))) (pos-*ℤ-pos (2 * k) n)
     ∙ ap pos (ap (λ (x : ℕ). x / (2 * n)) product ∙ div-mul-add k (2 * n) n (omega (arith, some)))
 
-backwards : (m k : ℕ) → int_div_euclid ((pos (2 * suc k) *ℤ negsuc m) +ℤ pos (suc m)) (pos (2 * suc m)) ≡ negsuc k
+pub backwards : (m k : ℕ) → int_div_euclid ((pos (2 * suc k) *ℤ negsuc m) +ℤ pos (suc m)) (pos (2 * suc m)) ≡ negsuc k
 backwards m k =
     let product : (2 * suc k) * suc m ≡ k * (2 * suc m) + (2 * suc m) = omega arith in
     let sum : neg_ℤ (pos (k * (2 * suc m) + (2 * suc m))) +ℤ pos (suc m) ≡ negsuc (k * (2 * suc m) + m) = omega (arith, ints) in
@@ -54,32 +54,32 @@ backwards m k =
     ∙ ap (λ (z : ℤ). int_div_euclid z (pos (2 * suc m))) sum
     ∙ ap negsuc (div-mul-add k (2 * suc m) m (omega arith))
 
-waits : (m : ℕ) → int_div_euclid ((pos 0 *ℤ negsuc m) +ℤ pos (suc m)) (pos (2 * suc m)) ≡ pos 0
+pub waits : (m : ℕ) → int_div_euclid ((pos 0 *ℤ negsuc m) +ℤ pos (suc m)) (pos (2 * suc m)) ≡ pos 0
 waits m =
     let start : neg_ℤ (pos (0 * suc m)) +ℤ pos (suc m) ≡ pos (0 * (2 * suc m) + suc m) = omega (arith, ints) in
     ap (λ (z : ℤ). int_div_euclid z (pos (2 * suc m))) start ∙ ap pos (div-mul-add 0 (2 * suc m) (suc m) (omega arith))
 
-gone_some : (n k : ℕ) (d : ℤ) → 0 < n → gone n d k ≡ int_div_euclid ((pos (2 * k) *ℤ d) +ℤ pos n) (pos (2 * n))
+pub gone_some : (n k : ℕ) (d : ℤ) → 0 < n → gone n d k ≡ int_div_euclid ((pos (2 * k) *ℤ d) +ℤ pos n) (pos (2 * n))
 unfolding gone
 gone_some n k d some =
     let more : nat_eq n 0 ≡ false = not_true (nat_eq n 0) (λ h. absurd (omega (arith, some, eqb-true n 0 h))) in
     rw more refl
 
-gone_whole : (d : ℤ) (k : ℕ) → k ≤ unsigned_abs d → unsigned_abs (gone (unsigned_abs d) d k) ≡ k
+pub gone_whole : (d : ℤ) (k : ℕ) → k ≤ unsigned_abs d → unsigned_abs (gone (unsigned_abs d) d k) ≡ k
 unfolding gone
 gone_whole (pos zero) k le = omega (arith, le)
 gone_whole (pos (suc m)) k le = ap unsigned_abs (gone_some (suc m) k (pos (suc m)) (omega arith) ∙ forwards (suc m) k (omega arith))
 gone_whole (negsuc m) zero le = ap unsigned_abs (gone_some (suc m) 0 (negsuc m) (omega arith) ∙ waits m)
 gone_whole (negsuc m) (suc k) le = ap unsigned_abs (gone_some (suc m) (suc k) (negsuc m) (omega arith) ∙ backwards m k)
 
-decided : (b : Bool) (P : Type 0) → Decides b P → P → true ≡ b
+pub decided : (b : Bool) (P : Type 0) → Decides b P → P → true ≡ b
 decided b P d p = sym (d.1 p)
 
-refuted : (b : Bool) (P : Type 0) → Decides b P → (P → false ≡ true) → false ≡ b
+pub refuted : (b : Bool) (P : Type 0) → Decides b P → (P → false ≡ true) → false ≡ b
 refuted true P d p = p (d.0 refl)
 refuted false P d p = refl
 
-same : (x y : ℤ) → int_eq x y ≡ true → x ≡ y
+pub same : (x y : ℤ) → int_eq x y ≡ true → x ≡ y
 same x y e = (Decides-int_eq x y).0 e
 
 longer_step : (d a r : ℤ) (k : ℕ) → k ≤ unsigned_abs d → int_eq (a +ℤ gone (unsigned_abs d) d k) r ≡ true → k ≡ unsigned_abs (r -ℤ a)
@@ -89,11 +89,11 @@ longer_step d a r k le e =
     less : (g : ℤ) → a +ℤ g ≡ r → g ≡ r -ℤ a
     less g is = omega (arith, ints, is)
 
-left_of : (x y : Bool) → (x && y) ≡ true → x ≡ true
+pub left_of : (x y : Bool) → (x && y) ≡ true → x ≡ true
 left_of true y h = refl
 left_of false y h = h
 
-right_of : (x y : Bool) → (x && y) ≡ true → y ≡ true
+pub right_of : (x y : Bool) → (x && y) ≡ true → y ≡ true
 right_of true y h = h
 right_of false y h = absurd cc
 
@@ -101,7 +101,7 @@ step_in : (d e a b column row : ℤ) (k : ℕ) (t : Bool) → k ≤ (if t then u
 step_in d e a b column row k true le h = longer_step e b row k le (right_of (int_eq (a +ℤ gone (unsigned_abs e) d k) column) (int_eq (b +ℤ gone (unsigned_abs e) e k) row) h)
 step_in d e a b column row k false le h = longer_step d a column k le (left_of (int_eq (a +ℤ gone (unsigned_abs d) d k) column) (int_eq (b +ℤ gone (unsigned_abs d) e k) row) h)
 
-goes_by_one : (s : Stroke) (column row : ℤ) → goes_through s column row ≡ (nat_le (step_to s column row) (steps s) && comes_to s column row (step_to s column row))
+pub goes_by_one : (s : Stroke) (column row : ℤ) → goes_through s column row ≡ (nat_le (step_to s column row) (steps s) && comes_to s column row (step_to s column row))
 goes_by_one s column row =
     only_one (steps s) (step_to s column row) (comes_to s column row)
     (λ k le h. step_in (across s) (down s) s.first.column s.first.row column row k (nat_le (unsigned_abs (across s)) (unsigned_abs (down s))) le h)

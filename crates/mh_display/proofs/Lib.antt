@@ -3,10 +3,12 @@ mod ArtLemmas
 mod CellLemmas
 mod DownLemmas
 mod DrawnLemmas
+mod LineLemmas
 mod LaneLemmas
 mod NearLemmas
 mod PaintLemmas
 mod RowLemmas
 mod SpoilLemmas
 mod StackLemmas
+mod StrokeLemmas
 mod WindowLemmas

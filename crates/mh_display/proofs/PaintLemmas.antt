@@ -1,14 +1,12 @@
 -- What is painted into cells, and into those of windows.
-use Rattle.std.specs.Prelude.{◌≡◌, ◌≢◌, ℕ, ◌+◌, ◌*◌, ◌<◌, ◌≤◌, ◌==◌, Bool, true, false, not, List, [], ◌∷◌, replicate, ◌&&◌, ◌||◌, if◌then◌else◌, Option, Some, None, slice_index, slice_set, ℤ, pos, negsuc, ◌-ℤ◌, ◌-◌, refl}
+use Rattle.std.specs.Prelude.{◌≡◌, ◌≢◌, ℕ, ◌+◌, ◌*◌, ◌<◌, Bool, true, false, not, List, [], ◌∷◌, ◌&&◌, ◌||◌, if◌then◌else◌, Option, Some, None, ℤ, pos, negsuc, ◌-ℤ◌, refl}
 use Rattle.std.specs.Option.{is_some}
 use Rattle.std.proofs.Common.{ap, ◌∙◌, sym, arith, subst}
 use Rattle.std.proofs.lemmas.List.{get_or-set_same, get_or-set_other}
 use Rattle.std.proofs.lemmas.Option.{slice_get_past}
 use Rattle.mh_base.specs.declared.area.Area.{Area}
-use Rattle.mh_model.specs.declared.picture.drawing.Stroke.{Stroke}
 use Rattle.mh_model.specs.declared.picture.line.Line.{Line}
 use Rattle.mh_model.specs.Boxes.{column_of, row_of, covers, first_column, first_row, is_edge, x_of, y_of}
-use Rattle.mh_model.specs.Drawn.{goes_through}
 use Rattle.mh_model.specs.Layout.{character_at, character_in, member_at}
 use Rattle.mh_model.specs.Picture.{cell_of}
 use Rattle.mh_model.specs.Planes.{Planes, with_cell}
@@ -18,9 +16,8 @@ use Rattle.mh_display.specs.declared.marked.Marked.{Marked}
 use Rattle.mh_display.specs.declared.panel.Panel.{Panel}
 use Rattle.mh_display.specs.declared.texts.Ink.{Ink}
 use Rattle.mh_display.specs.declared.window.Window.{Window}
-use Rattle.mh_display.specs.Painting.{IsBetween, IsComplete, IsSet, IsPainted, IsPaintedIn, marked_at, put, seen, settled}
+use Rattle.mh_display.specs.Painting.{IsComplete, IsSet, IsPainted, IsPaintedIn, marked_at, put, seen, settled}
 use Rattle.mh_display.specs.Panels.{area_of_frame, inner_paint, is_clear, panel_paint}
-use Rattle.mh_display.specs.Strokes.{stroke_paint}
 use Rattle.mh_display.specs.Surface.{Surface, is_in}
 use Rattle.mh_display.specs.Texts.{letter_paint}
 use Rattle.mh_display.specs.Texts.{is_clear as text_is_clear}
@@ -87,7 +84,7 @@ whole_of g inner a own old new is_own on off done = record { each = λ c inside.
 nothing_put : (g : ℕ → Paint) (s : Surface) (c : ℕ) → g c ≡ nothing → marked_at s c ≡ put (g c) (marked_at s c)
 nothing_put g s c none = sym (put_nothing (marked_at s c)) ∙ ap (λ (q : Paint). put q (marked_at s c)) (sym none)
 
-nothing_in : (g : ℕ → Paint) (w : Window) (s : Surface) → ((c : ℕ) → g c ≡ nothing) → IsPaintedIn g w s s
+pub nothing_in : (g : ℕ → Paint) (w : Window) (s : Surface) → ((c : ℕ) → g c ≡ nothing) → IsPaintedIn g w s s
 nothing_in g w s none = record { each = λ c inside. by c (has w c) }
   where
     by : (c : ℕ) (b : Bool) → marked_at s c ≡ (if b then put (g c) (marked_at s c) else marked_at s c)
@@ -137,12 +134,6 @@ pub text_in_box : (a b : Area) (ink : Ink) (lines : List Line) (own : Window) (o
 text_in_box a b ink lines own old new same is_own done =
     whole_of (text_paint a ink.background ink.colour lines) (letter_paint ink a lines) a own old new (subst (λ (x : Area). IsOf x own) same is_own)
     (λ c on. rw on refl) (λ c off. rw off refl) done
-
--- a line goes through the cell in this row and column or not
-pub goes_there : (s : Stroke) (line : Option ℕ) (row column : ℕ) (b : Bool) → column < 60 → b ≡ goes_through s (pos column) (pos row)
-    → (if b then line else None) ≡ (stroke_paint s line (60 * row + column)).back
-goes_there s line row column b inside is =
-    ap (λ (t : Bool). if t then line else None) (is ∙ (λ i. goes_through s (pos (sym (column_of_cell row column inside) i)) (pos (sym (row_of_cell row column inside) i))))
 
 -- the letter of the cell in this row and column
 pub letter_set : (ink : Ink) (a : Area) (lines : List Line) (row column : ℕ) (line : Option Line) (x : ℤ) (old new : ℕ → Marked) → column < 60

@@ -1,5 +1,5 @@
 -- Cells of a row, as bits of a number.
-use Rattle.std.specs.Prelude.{◌≡◌, ℕ, ◌+◌, ◌*◌, ◌<◌, ◌≤◌, Bool, false}
+use Rattle.std.specs.Prelude.{◌≡◌, ℕ, ◌+◌, ◌*◌, ◌<◌, ◌≤◌, false}
 use Rattle.std.specs.Int.{bit_at}
 use Rattle.mh_display.specs.Painting.{marked_at}
 use Rattle.mh_display.specs.Surface.{Surface}

@@ -1,6 +1,6 @@
 -- Painting from the top of the display stack down, cell by cell: what is settled of a cell, and what is still
 -- sought.
-use Rattle.std.specs.Prelude.{◌≡◌, ◌≢◌, ℕ, Bool, true, false, ◌/◌, ◌<◌, ◌≤◌, ◌==◌, nat_lt, ◌&&◌, if◌then◌else◌, List, [], map, Option, Some, None, length, slice_index, slice_set}
+use Rattle.std.specs.Prelude.{◌≡◌, ◌≢◌, ℕ, Bool, true, false, ◌/◌, ◌%◌, ◌<◌, ◌≤◌, nat_eq, nat_lt, ◌&&◌, if◌then◌else◌, List, [], map, Option, Some, None, length}
 use Rattle.mh_base.specs.declared.obj_ref.ObjRef.{ObjRef}
 use Rattle.mh_model.specs.declared.picture.cell.Cell.{Cell}
 use Rattle.mh_model.specs.declared.object.Object.{Object}
@@ -63,6 +63,14 @@ pub record IsBetween {X : Type 0} (h : ℕ → X → X) (old new : ℕ → X) (f
 -- the cells of the window are changed in the rows up to this one
 pub record IsAbove {X : Type 0} (h : ℕ → X → X) (w : Window) (old new : ℕ → X) (row : ℕ) : Type 0 where
   pub each : (c : ℕ) → c < 2160 → new c ≡ (if nat_lt (c / 60) row && has w c then h c (old c) else old c)
+
+-- those in this column
+pub record IsAcross {X : Type 0} (h : ℕ → X → X) (w : Window) (old new : ℕ → X) (column : ℕ) : Type 0 where
+  pub each : (c : ℕ) → c < 2160 → new c ≡ (if nat_eq (c % 60) column && has w c then h c (old c) else old c)
+
+-- those in the columns up to this one
+pub record IsBeside {X : Type 0} (h : ℕ → X → X) (w : Window) (old new : ℕ → X) (column : ℕ) : Type 0 where
+  pub each : (c : ℕ) → c < 2160 → new c ≡ (if nat_lt (c % 60) column && has w c then h c (old c) else old c)
 
 -- the cells of the window are changed
 pub record IsIn {X : Type 0} (h : ℕ → X → X) (w : Window) (old new : ℕ → X) : Type 0 where

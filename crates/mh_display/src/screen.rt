@@ -118,6 +118,16 @@ impl Screen {
         true
     }
 
+    /// Whether the cell is to be painted.
+    #[inline(always)]
+    pub(crate) fn is_stale(&self, row: usize, column: usize) -> bool
+        requires low { row < 36 }
+        requires wide { column < 60 }
+        ensures { result ≡ (marked_at self.now (60 * row + column)).stale }
+    {
+        has(&self.stale, row, column)
+    }
+
     /// Whether no cell is to be painted.
     pub(crate) fn is_clean(&self) -> bool
         ensures { result ≡ true → IsClean self.now.marks }

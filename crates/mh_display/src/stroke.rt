@@ -2,11 +2,11 @@
 //!
 //! The points of a drawing are told in 16 bits from one corner, so the cells of its ends are near one another,
 //! and no sum or product here overflows 64 bits.
-ghost use Rattle.std.specs.Prelude.{◌≡◌, ◌≤◌, ◌^◌, ◌*◌, ◌*ℤ◌, ◌+ℤ◌, ◌-ℤ◌, pos};
+ghost use Rattle.std.specs.Prelude.{◌≡◌, ◌<◌, ◌≤◌, ◌^◌, ◌*◌, ◌*ℤ◌, ◌+ℤ◌, ◌-ℤ◌, pos, true, false, unsigned_abs};
 ghost use Rattle.std.specs.Int.{int_div_euclid};
 ghost use Rattle.mh_model.specs.Boxes.{IsNear};
 ghost use Rattle.mh_model.specs.Drawn.{across, comes_to, comes_to_column, comes_to_row, down, goes_through, gone, spot_of, steps as steps_lem, stroke_of};
-ghost use Rattle.mh_display.specs.Strokes.{IsInReach, IsShort, step_to};
+ghost use Rattle.mh_display.specs.Strokes.{IsInReach, IsOnly, IsShort, is_steep, lies_between, place_between, step_to};
 
 use mh_base::Area;
 use mh_model::{Drawing, Point, Spot, Stroke};
@@ -30,8 +30,8 @@ fn spot_of(area: &Area, point: &Point) -> Spot
     ensures near { IsInReach point.now }
 {
     Spot {
-        column: column_at(place(area.x, point.x)),
-        row: row_at(place(area.y, point.y)),
+        column: column_of(place(area.x, point.x)),
+        row: row_of(place(area.y, point.y)),
     }
 }
 
@@ -45,7 +45,7 @@ fn place(start: i32, offset: i16) -> i64
 }
 
 /// The column of cells that has the unit.
-fn column_at(unit: i64) -> i64
+fn column_of(unit: i64) -> i64
     requires { IsNear (2 ^ 33) unit }
     ensures number { result ≡ int_div_euclid unit (pos 12) }
     ensures near { IsNear (2 ^ 33) result }
@@ -54,7 +54,7 @@ fn column_at(unit: i64) -> i64
 }
 
 /// The row of cells that has the unit.
-fn row_at(unit: i64) -> i64
+fn row_of(unit: i64) -> i64
     requires { IsNear (2 ^ 33) unit }
     ensures number { result ≡ int_div_euclid unit (pos 16) }
     ensures near { IsNear (2 ^ 33) result }
@@ -78,10 +78,106 @@ fn step_to(stroke: &Stroke, column: i32, row: i32) -> u64
     requires short { IsShort stroke.now }
     ensures { result ≡ step_to stroke.now column row }
 {
-    if across(stroke).unsigned_abs() <= down(stroke).unsigned_abs() {
+    if is_steep(stroke) {
         to_row(stroke, row).unsigned_abs()
     } else {
         to_column(stroke, column).unsigned_abs()
+    }
+}
+
+/// Whether the line is at least as long downwards as it is to the side, so that no row has two of its cells;
+/// else no column has.
+pub(crate) fn is_steep(stroke: &Stroke) -> bool
+    requires short { IsShort stroke.now }
+    ensures { result ≡ is_steep stroke.now }
+{
+    across(stroke).unsigned_abs() <= down(stroke).unsigned_abs()
+}
+
+/// The column of the cell in this row through which a steep line goes, if it lies between the first column and
+/// the last.
+pub(crate) fn column_in(stroke: &Stroke, row: usize, first: usize, last: usize) -> Option<usize>
+    requires short { IsShort stroke.now }
+    requires steep { is_steep stroke.now ≡ true }
+    requires low { row < 36 }
+    ensures { IsOnly (λ column. goes_through stroke.now (pos column) (pos row)) first last result }
+{
+    if !has_row(stroke, row as i32) {
+        return None;
+    }
+    place_between(column_at(stroke, row as i32), first, last)
+}
+
+/// The row of the cell in this column through which a flat line goes, if it lies between the first row and the
+/// last.
+pub(crate) fn row_in(stroke: &Stroke, column: usize, first: usize, last: usize) -> Option<usize>
+    requires short { IsShort stroke.now }
+    requires flat { is_steep stroke.now ≡ false }
+    requires wide { column < 60 }
+    ensures { IsOnly (λ row. goes_through stroke.now (pos column) (pos row)) first last result }
+{
+    if !has_column(stroke, column as i32) {
+        return None;
+    }
+    place_between(row_at(stroke, column as i32), first, last)
+}
+
+/// Whether the row lies between those of the two ends.
+fn has_row(stroke: &Stroke, row: i32) -> bool
+    ensures { result ≡ lies_between stroke.now.first.row stroke.now.last.row row }
+{
+    let row = i64::from(row);
+    if stroke.first.row <= stroke.last.row {
+        stroke.first.row <= row && row <= stroke.last.row
+    } else {
+        stroke.last.row <= row && row <= stroke.first.row
+    }
+}
+
+/// Whether the column lies between those of the two ends.
+fn has_column(stroke: &Stroke, column: i32) -> bool
+    ensures { result ≡ lies_between stroke.now.first.column stroke.now.last.column column }
+{
+    let column = i64::from(column);
+    if stroke.first.column <= stroke.last.column {
+        stroke.first.column <= column && column <= stroke.last.column
+    } else {
+        stroke.last.column <= column && column <= stroke.first.column
+    }
+}
+
+/// The column of the step that comes to this row.
+fn column_at(stroke: &Stroke, row: i32) -> i64
+    requires short { IsShort stroke.now }
+    requires on_the_way { unsigned_abs (row -ℤ stroke.now.first.row) ≤ steps_lem stroke.now }
+    ensures { result ≡ stroke.now.first.column +ℤ gone (steps_lem stroke.now) (across stroke.now) (unsigned_abs (row -ℤ stroke.now.first.row)) }
+{
+    let step = to_row(stroke, row).unsigned_abs();
+    stroke.first.column + gone(steps(stroke), across(stroke), step)
+}
+
+/// The row of the step that comes to this column.
+fn row_at(stroke: &Stroke, column: i32) -> i64
+    requires short { IsShort stroke.now }
+    requires on_the_way { unsigned_abs (column -ℤ stroke.now.first.column) ≤ steps_lem stroke.now }
+    ensures { result ≡ stroke.now.first.row +ℤ gone (steps_lem stroke.now) (down stroke.now) (unsigned_abs (column -ℤ stroke.now.first.column)) }
+{
+    let step = to_column(stroke, column).unsigned_abs();
+    stroke.first.row + gone(steps(stroke), down(stroke), step)
+}
+
+/// The number, if it is one from the first up to the last.
+fn place_between(number: i64, first: usize, last: usize) -> Option<usize>
+    ensures { result ≡ place_between first last number }
+{
+    if number < 0 {
+        return None;
+    }
+    let place = number as usize;
+    if first <= place && place < last {
+        Some(place)
+    } else {
+        None
     }
 }
 
@@ -115,7 +211,8 @@ fn gone(steps: u64, distance: i64, step: u64) -> i64
     requires few { steps ≤ 2 ^ 16 }
     requires near { IsNear 0xFFFF distance }
     requires on_the_way { step ≤ steps }
-    ensures { result ≡ gone steps distance step }
+    ensures number { result ≡ gone steps distance step }
+    ensures near { IsNear (2 ^ 34) result }
 {
     if steps == 0 {
         return 0;

@@ -9,7 +9,7 @@ pub returns : goal.returns
 returns c =
     let s = c.args.stroke.now in
     let whole : SFits w64 c.across.result = record { sfits = c.across.type_inv } in
-    let far : c.gone.result ≡ gone (steps s) (across s) c.args.step = c.gone.ensures ∙ rw (to_z-of_z whole, c.across.ensures.number, c.steps.ensures.number) refl in
+    let far : c.gone.result ≡ gone (steps s) (across s) c.args.step = c.gone.ensures.number ∙ rw (to_z-of_z whole, c.across.ensures.number, c.steps.ensures.number) refl in
     let there : c.to_column.result ≡ c.args.column -ℤ s.first.column = c.to_column.ensures ∙ rw (to_z-of_z c.ranges.column) refl in
     same_so_far s.first.column c.gone.result c.args.column c.to_column.result (record { sfits = c.gone.type_inv }) (record { sfits = c.to_column.type_inv }) there
     ∙ ap (λ (g : ℤ). int_eq (s.first.column +ℤ g) c.args.column) far
