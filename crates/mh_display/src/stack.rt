@@ -113,12 +113,20 @@ impl Stack {
     }
 }
 
+/// Takes a reference off, wherever it stands. All are gone over, from the top down, and only those above it are
+/// moved, at once.
 fn take_off(places: &mut Vec<ObjRef>, at: &ObjRef)
     ensures places { places.new.items ≡ without at.now places.old.items }
     ensures fewer { vec_len places.new ≤ vec_len places.old }
     ensures room { vec_capacity places.new ≡ vec_capacity places.old }
 {
-    places.retain(|other| !same_ref(at, other));
+    let mut left = places.len();
+    while 0 < left {
+        left -= 1;
+        if same_ref(at, &places[left]) {
+            drop(places.remove(left));
+        }
+    }
 }
 
 fn keep_of(places: &mut Vec<ObjRef>, application: &GroupName)
