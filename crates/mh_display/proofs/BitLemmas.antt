@@ -8,8 +8,6 @@ use Rattle.std.proofs.Math.Pow.{pow_mono}
 use Rattle.std.proofs.lemmas.Nat.{and_le_l}
 use Rattle.std.proofs.lemmas.Nat.Bits.{bit_at-zero, bit_at-lt, bit_at-trailing_zeros, bit_at_clear_same, bit_at_clear_other, bit_at_and, bit_at_above, bit_at_mask_inside, bit_at_ones, bit_at_or, bit_at_set_same, bit_at_set_other, bit_at_mask_below, bit_at_mask_above}
 use Rattle.mh_display.specs.declared.marked.Marked.{Marked}
-use Rattle.mh_display.specs.declared.window.Window.{Window}
-use Rattle.mh_display.specs.Windows.{has}
 use Rattle.mh_display.specs.Painting.{IsSet, IsBetween, marked_at}
 use Rattle.mh_display.specs.Bits.{IsStretch, IsLeft, AreStale}
 use Rattle.mh_display.specs.Surface.{Surface, is_in}
@@ -20,7 +18,7 @@ abbrev pub without : ℕ → ℕ → ℕ
 without bits k = bit_and bits (bit_not w64 (1 * 2 ^ k % 2 ^ 64))
 
 -- all bits above 63 are 0
-set_below : (bits k : ℕ) → bits < 2 ^ 64 → bit_at bits k ≡ 1 → k < 64
+pub set_below : (bits k : ℕ) → bits < 2 ^ 64 → bit_at bits k ≡ 1 → k < 64
 set_below bits k small e = by (nat_lt k 64) refl
   where
     by : (b : Bool) → nat_lt k 64 ≡ b → k < 64
@@ -254,29 +252,3 @@ all_stale rows is c inside =
 
 pub none_stale_at_first : (rows : List ℕ) → rows ≡ replicate 36 0 → (c : ℕ) → c < 2160 → is_in rows c ≡ false
 none_stale_at_first rows is c inside = of_same rows 0 c is inside ∙ not_set _ (bit_at-zero (c % 60))
-
--- the bits of no row of the window so far
-pub none_so_far : (s : Surface) (w : Window) (row bits : ℕ) → w.right ≤ 60 → w.top ≤ row → AreStale s row w.left w.right bits → bits ≡ 0
-    → ((c : ℕ) → c < 2160 → has w c ≡ true → c / 60 < row → (marked_at s c).stale ≡ false)
-    → (c : ℕ) → c < 2160 → has w c ≡ true → c / 60 < row + 1 → (marked_at s c).stale ≡ false
-unfolding has
-none_so_far s w row bits right top found none before c inside here low = by (nat_lt (c / 60) row) refl
-  where
-    by : (b : Bool) → nat_lt (c / 60) row ≡ b → (marked_at s c).stale ≡ false
-    by true e = before c inside here (grind (arith, nat_tests, e))
-    by false e =
-        let same : c / 60 ≡ row = grind (arith, nat_tests, e, low) in
-        let split : 60 * row + c % 60 ≡ c = omega (arith, same) in
-        let empty : bit_at bits (c % 60) ≡ 0 = ap (λ (n : ℕ). bit_at n (c % 60)) none ∙ bit_at-zero (c % 60) in
-        subst (λ (k : ℕ). (marked_at s k).stale ≡ false) split (found.rest (c % 60) (grind (arith, nat_tests, here)) (grind (arith, nat_tests, here)) empty)
-
-pub none_in_window : (s : Surface) (w : Window) (row : ℕ) → w.bottom ≤ row
-    → ((c : ℕ) → c < 2160 → has w c ≡ true → c / 60 < row → (marked_at s c).stale ≡ false)
-    → (c : ℕ) → c < 2160 → has w c ≡ true → (marked_at s c).stale ≡ false
-unfolding has
-none_in_window s w row bottom before c inside here = before c inside here (grind (arith, nat_tests, here, bottom))
-
--- none above the window
-pub none_above : (s : Surface) (w : Window) (c : ℕ) → c < 2160 → has w c ≡ true → c / 60 < w.top → (marked_at s c).stale ≡ false
-unfolding has
-none_above s w c inside here low = absurd (grind (arith, nat_tests, here, low))

@@ -7,6 +7,7 @@ mod LineLemmas
 mod LaneLemmas
 mod NearLemmas
 mod PaintLemmas
+mod RowBitLemmas
 mod RowLemmas
 mod SpoilLemmas
 mod StackLemmas

@@ -9,7 +9,7 @@ use Rattle.mh_model.specs.Picture.{cell_of, back_under, cell_under, paint_at}
 use Rattle.mh_model.specs.Planes.{IsWhole}
 use Rattle.mh_display.specs.declared.marked.Marked.{Marked}
 use Rattle.mh_display.specs.declared.window.Window.{Window}
-use Rattle.mh_display.specs.Surface.{IsStale, Surface, is_in}
+use Rattle.mh_display.specs.Surface.{AreInRows, IsStale, Surface, is_in}
 use Rattle.mh_display.specs.Windows.{has}
 
 -- a cell, whether something of it is still sought, and whether its character is, too
@@ -94,10 +94,11 @@ pub record IsComplete (s : Surface) : Type 0 where
   pub marks : length s.marks ≡ 36
   pub bare : length s.bare ≡ 36
 
--- it is complete, and where it is said so every cell is stale
-pub record IsMarked (spoilt : Bool) (s : Surface) : Type 0 where
+-- it is complete; where it is said so every cell is stale, and where a row has no bit here no cell of it is
+pub record IsMarked (spoilt : Bool) (rows : ℕ) (s : Surface) : Type 0 where
   pub whole : IsComplete s
   pub stale : spoilt ≡ true → IsStale s.marks
+  pub within : AreInRows rows s.marks
 
 -- what was sought among these references, the topmost first, is now sought among those that are left
 pub record IsDown (os : List Object) (rs left : List ObjRef) (old new : Surface) : Type 0 where

@@ -25,6 +25,10 @@ is_stale marks c = is_in marks c
 abbrev pub IsClean : List ℕ → Type 0
 IsClean marks = (c : ℕ) → c < 2160 → is_stale marks c ≡ false
 
+-- a row that has no bit in this number has no cell that is left to be painted
+abbrev pub AreInRows : ℕ → List ℕ → Type 0
+AreInRows rows marks = (c : ℕ) → c < 2160 → bit_at rows (c / 60) ≡ 0 → is_stale marks c ≡ false
+
 -- every cell is left to be painted
 abbrev pub IsStale : List ℕ → Type 0
 IsStale marks = (c : ℕ) → c < 2160 → is_stale marks c ≡ true

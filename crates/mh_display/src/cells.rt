@@ -1,9 +1,9 @@
 //! Cells of the picture as bits: a number for each row, of which the lowest 60 bits are its cells.
 ghost use Rattle.std.specs.Prelude.{◌≡◌, ◌+◌, ◌*◌, ◌-◌, ◌%◌, ◌^◌, ◌<◌, ◌≤◌, ℕ, true, false, bit_and};
-ghost use Rattle.std.specs.Int.{w64, trailing_zeros};
+ghost use Rattle.std.specs.Int.{bit_at, w64, trailing_zeros};
 ghost use Rattle.mh_display.specs.Bits.{IsStretch};
 ghost use Rattle.mh_display.specs.Painting.{IsBetween, IsSet};
-ghost use Rattle.mh_display.specs.Surface.{is_in};
+ghost use Rattle.mh_display.specs.Surface.{AreInRows, is_in};
 
 /// The bits from the first up to the last.
 #[inline(always)]
@@ -74,6 +74,29 @@ pub(crate) fn add(rows: &mut [u64; 36], row: usize, bits: u64, first: usize, las
     ensures { IsBetween (λ c b. true) (is_in rows.old) (is_in rows.new) (60 * row + first) (60 * row + last) }
 {
     rows[row] |= bits;
+}
+
+/// The rows in which a cell has its bit, as bits.
+pub(crate) fn rows_of(rows: &[u64; 36]) -> u64
+    ensures { AreInRows result rows.now }
+{
+    let mut found = 0;
+    for row in 0..36 {
+        if rows[row] != 0 {
+            found |= 1 << row;
+        }
+    }
+    found
+}
+
+/// These rows, and this one too if it is wanted.
+#[inline(always)]
+pub(crate) fn with_row(rows: u64, row: usize, wanted: bool) -> u64
+    requires { row < 36 }
+    ensures others { (k : ℕ) → bit_at result k ≡ 0 → bit_at rows k ≡ 0 }
+    ensures own { wanted ≡ true → bit_at result row ≡ 1 }
+{
+    if wanted { rows | 1 << row } else { rows }
 }
 
 /// Whether no cell has its bit.

@@ -2,7 +2,7 @@
 //!
 //! The visibles are painted from the top down, each into the cells alone of which something is still sought; so
 //! the walk ends where all cells are settled, and no cell is painted twice.
-ghost use Rattle.std.specs.Prelude.{◌≡◌, ◌<◌, ◌+◌, ◌*◌, [], reverse};
+ghost use Rattle.std.specs.Prelude.{◌≡◌, ◌<◌, ◌+◌, ◌*◌, [], reverse, true};
 ghost use Rattle.mh_model.specs.Picture.{picture};
 ghost use Rattle.mh_model.specs.State.{all};
 ghost use Rattle.mh_display.specs.Painting.{IsAll, IsBetween, IsComplete, IsDown, IsSet, marked_at, settled};
@@ -32,18 +32,26 @@ impl Screen {
     }
 }
 
-/// Paints one visible below another, as long as a cell is stale. That is tested once for every eight visibles.
+/// Paints one visible below another, as long as a cell is stale.
 fn paint_down(screen: &mut Screen, objects: &Objects, stack: &[ObjRef])
     ensures { IsDown (all objects.now) (reverse stack.now) [] screen.old screen.new }
 {
     let mut left = stack.len();
     while 0 < left {
-        if left % 8 == 0 && screen.is_clean() {
+        if is_done_at(screen, left) {
             return;
         }
         left -= 1;
         paint_found(screen, objects.lined(&stack[left]));
     }
+}
+
+/// Whether no cell is stale. That is tested once for every eight visibles, of which so many are left.
+fn is_done_at(screen: &mut Screen, left: usize) -> bool
+    ensures same { screen.new ≡ screen.old }
+    ensures clean { result ≡ true → IsClean screen.new.marks }
+{
+    left % 8 == 0 && screen.is_done()
 }
 
 /// There is nothing below.

@@ -7,7 +7,7 @@ ghost use Rattle.mh_display.specs.Painting.{IsAll, IsComplete, IsSet, marked_at,
 ghost use Rattle.mh_display.specs.Surface.{IsClean, IsStale, Spoils};
 ghost use Rattle.mh_display.specs.Windows.{has as has_lem};
 
-use crate::cells::{has, has_none, set, stretch};
+use crate::cells::{has, has_none, lowest, rows_of, set, stretch, with_row, without};
 use crate::marked::{Marked, put};
 use crate::spoiling::spoil_found;
 use crate::window::Window;
@@ -18,12 +18,17 @@ use std::marker::Model;
 /// All cells of a row.
 const ALL: u64 = 0x0FFF_FFFF_FFFF_FFFF;
 
+/// All rows.
+const ALL_ROWS: u64 = 0x000F_FFFF_FFFF;
+
 /// The picture that is kept, and the cells of it that are still to be painted.
 #[derive(Drop)]
 pub struct Screen {
     picture: Picture,
     /// A bit for each cell, a number for each row: of those that are to be painted.
     stale: [u64; 36],
+    /// A bit for each row: one that has none has no cell that is to be painted.
+    rows: u64,
     /// Of those whose character is sought, too, while the picture is painted.
     bare: [u64; 36],
     /// Whether nothing has been painted since all cells were to be painted anew.
@@ -38,7 +43,7 @@ impl Model for Screen {
 
     ghost view = { λ s. record { planes = s.picture; marks = s.stale; bare = s.bare } };
 
-    ghost invariant = { λ s. IsMarked s.spoilt (record { planes = s.picture; marks = s.stale; bare = s.bare }) };
+    ghost invariant = { λ s. IsMarked s.spoilt s.rows (record { planes = s.picture; marks = s.stale; bare = s.bare }) };
 }
 
 impl Screen {
@@ -52,6 +57,7 @@ impl Screen {
         Ok(Screen {
             picture,
             stale: [0; 36],
+            rows: 0,
             bare: [0; 36],
             spoilt: false,
         })
@@ -70,6 +76,7 @@ impl Screen {
         ensures all { IsStale self.new.marks }
     {
         self.stale = [ALL; 36];
+        self.rows = ALL_ROWS;
         self.spoilt = true;
     }
 
@@ -85,6 +92,7 @@ impl Screen {
         ensures same { self.new.planes ≡ self.old.planes }
         ensures spoilt { Spoils (option_copied found.entry) self.old.marks self.new.marks }
     {
+        self.rows = ALL_ROWS;
         spoil_found(&mut self.stale, found);
     }
 
@@ -104,16 +112,19 @@ impl Screen {
         self.stale[row] & stretch(first, last)
     }
 
-    /// Whether no cell of the window is to be painted.
+    /// Whether no cell of the window is to be painted. Only rows that have their bit are looked at.
     pub(crate) fn is_settled_in(&self, window: &Window) -> bool
         requires low { window.now.bottom ≤ 36 }
         requires wide { window.now.right ≤ 60 }
         ensures { result ≡ true → (c : ℕ) → c < 2160 → has_lem window.now c ≡ true → (marked_at self.now c).stale ≡ false }
     {
-        for row in window.top..window.bottom {
+        let mut left = self.rows & stretch(window.top, window.bottom);
+        while left != 0 {
+            let row = lowest(left);
             if self.stale_in(row, window.left, window.right) != 0 {
                 return false;
             }
+            left = without(left, row);
         }
         true
     }
@@ -135,11 +146,21 @@ impl Screen {
         has_none(&self.stale)
     }
 
+    /// Whether no cell is to be painted. It takes their bits from the rows in which none is any more.
+    pub(crate) fn is_done(&mut self) -> bool
+        ensures same { self.new ≡ self.old }
+        ensures clean { result ≡ true → IsClean self.new.marks }
+    {
+        self.rows = rows_of(&self.stale);
+        self.rows == 0
+    }
+
     /// Of the stale cells nothing is settled.
     pub(crate) fn renew(&mut self)
         ensures { IsAll (λ c. renewed) (marked_at self.old) (marked_at self.new) }
     {
         self.bare = self.stale;
+        self.rows = rows_of(&self.stale);
     }
 
     /// Paints this under what is settled of a cell: a colour behind it, and a character with its colour.
@@ -179,6 +200,7 @@ impl Screen {
         requires wide { column < 60 }
         ensures { IsSet (marked_at self.old) (marked_at self.new) (60 * row + column) new }
     {
+        self.rows = with_row(self.rows, row, new.stale);
         let at = 60 * row + column;
         self.picture.set_mark(at, new.cell.scalar, new.cell.fore);
         self.picture.set_back(at, new.cell.back);

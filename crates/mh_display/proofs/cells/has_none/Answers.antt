@@ -1,4 +1,4 @@
-use Rattle.std.proofs.Common.{rules, ◌<◌, arith, ℕ}
+use Rattle.std.proofs.Common.{arith}
 use Rattle.mh_display.proofs.BitLemmas.{none_in}
 use Rattle.mh_display.proofs.cells.has_none.Goals as goal
 

@@ -1,4 +1,4 @@
-use Rattle.std.proofs.Common.{rules, arith, refl}
+use Rattle.std.proofs.Common.{rules, arith}
 use Rattle.mh_display.proofs.BitLemmas.{all_left, next_left, none_left, fewer, lowest_inside}
 use Rattle.mh_display.specs.Painting.{settled}
 use Rattle.mh_display.proofs.PaintLemmas.{settled_already}

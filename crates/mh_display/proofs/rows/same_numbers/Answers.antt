@@ -1,5 +1,5 @@
-use Rattle.std.proofs.Common.{rules, ◌≡◌, ◌∙◌, sym, ◌+◌, ◌≤◌, length, take, drop, ℕ, arith}
-use Rattle.mh_display.proofs.LaneLemmas.{told_behind, told_here}
+use Rattle.std.proofs.Common.{rules, ◌∙◌, arith}
+use Rattle.mh_display.proofs.LaneLemmas.{told_behind}
 use Rattle.mh_display.proofs.rows.same_numbers.Goals as goal
 
 pub loop-at-preserved : goal.loop-at-preserved

@@ -1,7 +1,9 @@
-use Rattle.std.proofs.Common.{◌≡◌, ◌<◌, ◌≤◌, ◌/◌, ℕ, true, false}
-use Rattle.mh_display.specs.Painting.{marked_at}
-use Rattle.mh_display.specs.Windows.{has}
+use Rattle.std.proofs.Common.{◌<◌, ◌^◌}
+use Rattle.mh_display.proofs.RowBitLemmas.{AreToSee}
 use Rattle.mh_display.proofs.screen.Screen.is_settled_in.Given as goal
 
-abbrev pub invariant-loop-row : goal.invariant-loop-row
-invariant-loop-row l = (l.window.top ≤ l.row) × ((c : ℕ) → c < 2160 → has l.window c ≡ true → c / 60 < l.row → (marked_at l.self c).stale ≡ false)
+abbrev pub invariant-loop-left : goal.invariant-loop-left
+invariant-loop-left l = (l.left < 2 ^ 64) × AreToSee l.self l.window l.left
+
+abbrev pub decreases-loop-left : goal.decreases-loop-left
+decreases-loop-left l = l.left

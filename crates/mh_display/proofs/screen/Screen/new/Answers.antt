@@ -9,4 +9,5 @@ pub invariant_of-result : goal.invariant_of-result
 invariant_of-result c = record {
   whole = record { planes = search rules; marks = search rules; bare = search rules };
   stale = λ e. absurd cc;
+  within = λ k inside e. none_stale_at_first _ (search rules) k inside;
 }
