@@ -1,3 +1,9 @@
+mod AgeLemmas
 mod AheadLemmas
 mod CountLemmas
+mod EachLemmas
+mod FoundLemmas
+mod KeyLemmas
 mod PlaceLemmas
+mod SetLemmas
+mod TurnLemmas

@@ -1,3 +1,4 @@
 pub mod Agenda
 pub mod Order
 pub mod Queued
+pub mod Turns

@@ -11,8 +11,10 @@ pub mod agenda;
 mod counting;
 mod order;
 pub mod queue;
+mod timer_key;
 pub mod timers;
 pub mod timing;
+mod turn;
 
 pub use agenda::Agenda;
 pub use queue::Queue;

@@ -1,30 +1,44 @@
 //! `Timers`: the timers that are set.
-ghost use Rattle.std.specs.Prelude.{◌≡◌, ◌≤◌, [], IfOk, OnErr, OnOk, filter, map, not};
+//!
+//! Setting or cancelling one takes as long as the logarithm of how many are set; so does each that is due. A
+//! tick at which none is due looks at one timer alone.
+ghost use Rattle.std.specs.Prelude.{◌≡◌, ◌<◌, ◌++◌, ◌∷◌, [], false, true, IfOk, OnErr, OnOk, filter, length, map, not};
+ghost use Rattle.std.specs.Map.{values_of};
 ghost use Rattle.std.specs.Str.{bytes_eq};
-ghost use Rattle.std.specs.Vec.{vec_capacity, vec_len};
 ghost use Rattle.mh_model.specs.Time.{cancelled, due as due_lem, is_due};
-ghost use Rattle.mh_model.specs.Time.{is_timer, timed, timer_event};
+ghost use Rattle.mh_model.specs.Time.{timed, timer_event};
+ghost use Rattle.mh_events.specs.Turns.{key_of};
 
-use crate::order::{due_of, is_due};
+use crate::order::{Place, due_of};
+use crate::timer_key::{TimerKey, forget, keep as keep_turns, make_room, note};
+use crate::turn::{Turn, keep as keep_timers, put, take, take_due, take_timer};
 use mh_base::{EventType, GroupName, ObjRef, Value};
 use mh_model::{Event, Timer};
 use std::alloc::{AllocError, Global};
+use std::collections::{BTreeMap, HashMap};
 use std::marker::Model;
 
 /// The timers that are set (ISO/IEC 13522-5, SetTimer). A contract sees the list of them, in the
 /// order in which they were set.
 #[derive(Drop)]
 pub struct Timers {
-    timers: Vec<Timer>,
+    timers: BTreeMap<Turn, Timer>,
+    /// The turn of each timer.
+    turns: HashMap<TimerKey, Turn>,
+    /// The next timer gets the number below this one.
+    left: u64,
 }
 
 impl Model for Timers {
     ghost use Rattle.std.specs.Prelude.{List};
     ghost use Rattle.mh_model.specs.declared.time.Timer.{Timer};
+    ghost use Rattle.mh_events.specs.Turns.{in_setting_order, turn_of, AreFound};
 
     ghost Value = { List Timer };
 
-    ghost view = { λ t. t.timers.items };
+    ghost view = { λ t. in_setting_order t.timers.entries };
+
+    ghost invariant = { λ t. AreFound t.timers.entries (turn_of t.turns.entries) t.left };
 }
 
 impl Timers {
@@ -33,7 +47,9 @@ impl Timers {
         ensures { result ≡ [] }
     {
         Timers {
-            timers: Vec::new(alloc),
+            timers: BTreeMap::new(alloc),
+            turns: HashMap::new(alloc),
+            left: u64::MAX,
         }
     }
 
@@ -43,14 +59,37 @@ impl Timers {
         ensures set { OnOk result (self.new ≡ timed group.now id due self.old) }
         ensures kept { OnErr result (self.new ≡ self.old) }
     {
-        self.timers.reserve(1)?;
+        let key = TimerKey {
+            id,
+            group: group.clone()?,
+        };
         let timer = Timer {
             group: group.clone()?,
             id,
             due,
         };
-        cancel_in(&mut self.timers, &timer.group, timer.id);
-        self.timers.push_reserved(timer);
+        self.set_timer(key, timer)
+    }
+
+    fn set_timer(&mut self, key: TimerKey, timer: Timer) -> Result<(), AllocError>
+        requires { key ≡ key_of timer }
+        ensures set { OnOk result (self.new ≡ cancelled key.group key.id self.old ++ timer ∷ []) }
+        ensures kept { OnErr result (self.new ≡ self.old) }
+    {
+        // The numbers last for 2^64 timers that are set one after another, longer than any machine runs.
+        if self.left == 0 {
+            return Err(AllocError);
+        }
+        let turn = Turn {
+            due: timer.due,
+            number: self.left - 1,
+        };
+        make_room(&mut self.turns)?;
+        put(&mut self.timers, turn, timer)?;
+        self.left -= 1;
+        if let Some(old) = note(&mut self.turns, key, turn) {
+            take(&mut self.timers, old);
+        }
         Ok(())
     }
 
@@ -58,7 +97,19 @@ impl Timers {
     pub fn cancel(&mut self, group: &GroupName, id: i32)
         ensures { self.new ≡ cancelled group.now id self.old }
     {
-        cancel_in(&mut self.timers, group, id);
+        // A copy of the name may be refused memory, but nothing else finds the turn. All timers are looked at then.
+        match key_of(group, id) {
+            Ok(key) => self.cancel_key(&key),
+            Err(_) => take_timer(&mut self.timers, group, id),
+        }
+    }
+
+    fn cancel_key(&mut self, key: &TimerKey)
+        ensures { self.new ≡ cancelled key.now.group key.now.id self.old }
+    {
+        if let Some(turn) = forget(&mut self.turns, key) {
+            take(&mut self.timers, turn);
+        }
     }
 
     /// The events of the timers that are due at this moment, in order: by due moment, of one moment
@@ -72,7 +123,7 @@ impl Timers {
         ensures { let due = due_lem now application.now self.now in
             IfOk result (λ events. events.items ≡ map timer_event due) }
     {
-        let due = due_of(alloc, now, application, self.timers.as_slice())?;
+        let due = due_of(alloc, now, application, &self.timers)?;
         events_of(alloc, due)
     }
 
@@ -80,55 +131,63 @@ impl Timers {
     pub fn drop_due(&mut self, now: u32)
         ensures { self.new ≡ filter (λ t. not (is_due now t)) self.old }
     {
-        drop_due_in(&mut self.timers, now);
+        while self.drop_first(now) {}
+    }
+
+    /// Takes one away that is due, if there is one.
+    fn drop_first(&mut self, now: u32) -> bool
+        ensures more { result ≡ true → filter (λ t. not (is_due now t)) self.new
+            ≡ filter (λ t. not (is_due now t)) self.old }
+        ensures fewer { result ≡ true → length self.new < length self.old }
+        ensures done { result ≡ false → self.new ≡ filter (λ t. not (is_due now t)) self.old }
+    {
+        match take_due(&mut self.timers, now) {
+            Some((_, timer)) => {
+                forget(&mut self.turns, &into_key(timer));
+                true
+            }
+            None => false,
+        }
     }
 
     /// Keeps those of the application.
     pub fn keep(&mut self, application: &GroupName)
         ensures { self.new ≡ filter (λ t. bytes_eq t.group application.now) self.old }
     {
-        keep_of(&mut self.timers, application);
+        keep_timers(&mut self.timers, application);
+        keep_turns(&mut self.turns, application);
     }
 
     pub fn clear(&mut self)
         ensures { self.new ≡ [] }
     {
         self.timers.clear();
+        self.turns.clear();
+        self.left = u64::MAX;
     }
 }
 
-fn cancel_in(timers: &mut Vec<Timer>, group: &GroupName, id: i32)
-    ensures timers { timers.new.items ≡ cancelled group.now id timers.old.items }
-    ensures fewer { vec_len timers.new ≤ vec_len timers.old }
-    ensures room { vec_capacity timers.new ≡ vec_capacity timers.old }
+fn key_of(group: &GroupName, id: i32) -> Result<TimerKey, AllocError>
+    ensures { IfOk result (λ key. key ≡ record { id = id; group = group.now }) }
 {
-    timers.retain(|timer| !is_timer(timer, group, id));
+    let group = group.clone()?;
+    Ok(TimerKey { id, group })
 }
 
-/// Whether it is the timer of the group with this id.
-fn is_timer(timer: &Timer, group: &GroupName, id: i32) -> bool
-    ensures { result ≡ is_timer group.now id timer.now }
+fn into_key(timer: Timer) -> TimerKey
+    ensures { result ≡ record { id = timer.id; group = timer.group } }
 {
-    timer.group == *group && timer.id == id
+    TimerKey {
+        id: timer.id,
+        group: timer.group,
+    }
 }
 
-fn drop_due_in(timers: &mut Vec<Timer>, now: u32)
-    ensures { timers.new.items ≡ filter (λ t. not (is_due now t)) timers.old.items }
-{
-    timers.retain(|timer| !is_due(timer, now));
-}
-
-fn keep_of(timers: &mut Vec<Timer>, application: &GroupName)
-    ensures { timers.new.items ≡ filter (λ t. bytes_eq t.group application.now) timers.old.items }
-{
-    timers.retain(|timer| timer.group == *application);
-}
-
-fn events_of(alloc: Global, timers: Vec<Timer>) -> Result<Vec<Event>, AllocError>
-    ensures { IfOk result (λ events. events.items ≡ map timer_event timers.items) }
+fn events_of(alloc: Global, timers: BTreeMap<Place, Timer>) -> Result<Vec<Event>, AllocError>
+    ensures { IfOk result (λ events. events.items ≡ map timer_event (values_of timers.entries)) }
 {
     let mut events = Vec::with_capacity(alloc, timers.len())?;
-    for timer in timers {
+    for timer in timers.into_values() {
         events.push_reserved(event_of(timer));
     }
     Ok(events)

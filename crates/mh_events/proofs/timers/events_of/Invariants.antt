@@ -6,6 +6,5 @@ use Rattle.mh_events.proofs.timers.events_of.Given as goal
 
 abbrev pub invariant-loop-timer : goal.invariant-loop-timer
 invariant-loop-timer l =
-    (l.events.items ++ map timer_event l.timer-iterator.rest.items
-    ≡ l.initial.events.items ++ map timer_event l.initial.timer-iterator.rest.items)
-    × (vec_len l.events + length l.timer-iterator.rest.items ≤ vec_capacity l.events)
+    (l.events.items ++ map timer_event l.timer-iterator ≡ l.initial.events.items ++ map timer_event l.initial.timer-iterator)
+    × (vec_len l.events + length l.timer-iterator ≤ vec_capacity l.events)
