@@ -1,5 +1,6 @@
 -- The carousel, as a contract sees it.
-use Rattle.std.specs.Prelude.{ℕ, List, map}
+use Rattle.std.specs.Prelude.{ℕ, List, filter, map}
+use Rattle.std.specs.Str.{bytes_eq}
 use Rattle.mh_base.specs.declared.obj_ref.ObjRef.{ObjRef}
 use Rattle.mh_model.specs.declared.file.File.{File}
 use Rattle.mh_model.specs.declared.file.Wait.{Wait}
@@ -24,3 +25,7 @@ wait_of e = record { object = e.0; name = e.1 }
 
 abbrev pub waits_of : List (ObjRef × List ℕ) → List Wait
 waits_of es = map wait_of es
+
+-- the objects that wait for the file of this name
+abbrev pub waiting_for : List ℕ → List Wait → List ObjRef
+waiting_for name ws = map (λ w. w.object) (filter (λ w. bytes_eq w.name name) ws)

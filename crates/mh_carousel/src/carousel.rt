@@ -1,14 +1,14 @@
 //! `Carousel`: the content files that are there, and who waits for which.
 //!
 //! What may want memory is `arrive`, `wait` and what makes room alone.
-ghost use Rattle.std.specs.Prelude.{◌≡◌, ◌≤◌, [], Some, None, OnOk, OnErr, IfErr, IsErrOf, IsErrAnd, MatchOption, filter};
-ghost use Rattle.std.specs.List.{list_any};
+ghost use Rattle.std.specs.Prelude.{◌≡◌, ◌≤◌, [], Some, None, OnOk, OnErr, IfOk, IfErr, IsErrOf, IsErrAnd, MatchOption, filter};
 ghost use Rattle.std.specs.Option.{option_copied};
 ghost use Rattle.std.specs.Str.{bytes_eq};
 ghost use Rattle.mh_model.specs.Files.{arrived, awaited, content};
-ghost use Rattle.mh_model.specs.Files.{forgotten, is_too_large, is_too_many, waits_for, with_file};
+ghost use Rattle.mh_model.specs.Files.{forgotten, is_too_large, is_too_many, with_file};
 ghost use Rattle.mh_model.specs.Step.{files_ahead};
 ghost use Rattle.mh_carousel.specs.Arrival.{arrival_refusal};
+ghost use Rattle.mh_carousel.specs.Carried.{waiting_for};
 
 use crate::refusal::{ArrivalError, RefusedArrival};
 use crate::{ahead, files, waits};
@@ -134,18 +134,12 @@ impl Carousel {
         Ok(())
     }
 
-    /// Whether the object waits for the file of this name.
-    pub fn waits(&self, name: &GroupName, object: &ObjRef) -> bool
-        ensures { result ≡ waits_for name.now self.now.waits object.now }
+    /// The objects that wait for the file of this name, in the order in which they came to. Where none does it takes
+    /// no memory.
+    pub fn waiting(&self, alloc: Global, name: &GroupName) -> Result<Vec<ObjRef>, AllocError>
+        ensures { IfOk result (λ objects. objects.items ≡ waiting_for name.now self.now.waits) }
     {
-        waits::waits(&self.waits, name, object)
-    }
-
-    /// Whether an object waits for the file of this name.
-    pub fn is_awaited(&self, name: &GroupName) -> bool
-        ensures { result ≡ list_any (λ w. bytes_eq w.name name.now) self.now.waits }
-    {
-        waits::is_awaited(&self.waits, name)
+        waits::waiting(alloc, &self.waits, name)
     }
 
     /// Makes room for one more object that waits. Where memory is refused nothing changes.

@@ -1,39 +1,33 @@
 //! The objects that wait, each with the name of its file.
-ghost use Rattle.std.specs.Prelude.{◌≡◌, ◌≤◌, ◌++◌, ◌∷◌, [], Some, None, not, filter};
-ghost use Rattle.std.specs.List.{list_any};
+ghost use Rattle.std.specs.Prelude.{◌≡◌, ◌≤◌, ◌++◌, ◌∷◌, [], Some, None, IfOk, not, filter};
 ghost use Rattle.std.specs.Map.{lookup};
 ghost use Rattle.std.specs.Str.{bytes_eq};
 ghost use Rattle.indexmap.specs.IndexMap.{spare};
-ghost use Rattle.mh_model.specs.Files.{arrived, awaited, forgotten, waits_for};
-ghost use Rattle.mh_carousel.specs.Carried.{waits_of};
+ghost use Rattle.mh_model.specs.Files.{arrived, awaited, forgotten};
+ghost use Rattle.mh_carousel.specs.Carried.{waiting_for, waits_of};
 ghost use Rattle.mh_model.specs.Reference.{same_key};
 
 use indexmap::IndexMap;
 use mh_base::{GroupName, ObjRef};
 use mh_model::Wait;
+use std::alloc::{AllocError, Global};
 
-/// Whether the object waits for the file of this name.
-pub(crate) fn waits(waits: &IndexMap<ObjRef, GroupName>, name: &GroupName, object: &ObjRef) -> bool
-    ensures { result ≡ waits_for name.now (waits_of waits.now.entries) object.now }
+/// The objects that wait for the file of this name, in the order in which they came to. Where none does it takes no
+/// memory.
+pub(crate) fn waiting(
+    alloc: Global,
+    waits: &IndexMap<ObjRef, GroupName>,
+    name: &GroupName,
+) -> Result<Vec<ObjRef>, AllocError>
+    ensures { IfOk result (λ objects. objects.items ≡ waiting_for name.now (waits_of waits.now.entries)) }
 {
-    // The length is asked for its clause that no object stands there twice.
-    let _ = waits.len();
-    match waits.get(object) {
-        Some(other) => *other == *name,
-        None => false,
-    }
-}
-
-/// Whether an object waits for the file of this name.
-pub(crate) fn is_awaited(waits: &IndexMap<ObjRef, GroupName>, name: &GroupName) -> bool
-    ensures { result ≡ list_any (λ w. bytes_eq w.name name.now) (waits_of waits.now.entries) }
-{
-    for other in waits.values() {
+    let mut objects = Vec::new(alloc);
+    for (object, other) in waits.iter() {
         if *other == *name {
-            return true;
+            objects.push(object.clone()?)?;
         }
     }
-    false
+    Ok(objects)
 }
 
 /// Lets the object wait for nothing any more. Where nothing waits, nothing is looked for.

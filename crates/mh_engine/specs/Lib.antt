@@ -1,4 +1,5 @@
 pub mod Answer
 pub mod Beside
+pub mod Lent
 pub mod Play
 pub mod Told

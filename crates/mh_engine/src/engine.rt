@@ -1,5 +1,6 @@
 //! `Engine`: a machine with the verdict on its service, and with how many steps may be taken.
 ghost use Rattle.std.specs.Prelude.{◌≡◌, ◌≤◌, true, false, None, Some, [], IfOk, IfErr, OnOk, OnErr, IsErrOf, IsErrAnd, MatchOption};
+ghost use Rattle.std.specs.Borrow.{sem};
 ghost use Rattle.mh_model.specs.State.{begun};
 ghost use Rattle.mh_model.specs.declared.input.Obstacle.{Obstacle};
 ghost use Rattle.mh_model.specs.Step.{step, is_empty, posted, preset, preset_obstacle, obstacle, is_settled, advanced};
@@ -13,6 +14,7 @@ ghost use Rattle.mh_machine.specs.Rest.{answer_of, is_faulted, rest_of};
 ghost use Rattle.mh_machine.specs.Working.{IsPartly};
 ghost use Rattle.mh_machine.specs.Refusal.{refusal_for, step_refusal, post_refusal, preset_refusal};
 ghost use Rattle.mh_engine.specs.Answer.{start_refusal};
+ghost use Rattle.mh_engine.specs.Lent.{EngineStays};
 ghost use Rattle.mh_engine.specs.Play.{unbounded, with_more};
 
 use crate::refusal::{StartError, Unaccepted};
@@ -152,9 +154,9 @@ impl Engine {
         answer
     }
 
-    /// Makes so many steps, or as many as there is something to do and as are counted; the picture is
-    /// painted once, behind the last of them. Where memory is refused some of the steps were made, there is
-    /// more to do, and the others may be made again; where nothing is left to do no memory is asked for.
+    /// Makes so many steps, or as many as there is something to do and as are counted. Where memory is refused
+    /// some of the steps were made, there is more to do, and the others may be made again; where nothing is
+    /// left to do no memory is asked for.
     pub fn advance(&mut self, most: u32) -> Result<(), AllocError>
         ensures all { OnOk result (self.new ≡ record self.old { state = advanced most self.old.state }) }
         ensures some { OnErr result (IsPartly most self.old.state self.new.state) }
@@ -168,9 +170,11 @@ impl Engine {
         made
     }
 
-    /// The picture that is shown.
-    pub fn picture(&self) -> &Picture
-        ensures { result.now ≡ shown self.now.state }
+    /// The picture that is shown. What the steps so far have left to be painted is painted now, which wants no
+    /// memory and changes nothing of the state; steps whose picture nobody asks for cost no painting.
+    pub fn picture(&mut self) -> &Picture
+        ensures* same { sem 𝓛 (EngineStays self.entry) }
+        ensures shown { result.now ≡ shown self.old.state }
     {
         self.machine.picture()
     }

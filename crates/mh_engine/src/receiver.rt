@@ -3,6 +3,10 @@
 //! The engine itself calls none of them. Before each step it is asked which call the step makes, the
 //! program is called, and the engine is told what came of it.
 ghost use Rattle.std.specs.Prelude.{◌≡◌, ◌≤◌, map, true, false, None, Ok, Err, IfOk, IfErr, OnOk, OnErr, IsErrOf, IsErrAnd, MatchOption};
+ghost use Rattle.std.specs.Borrow.{sem};
+ghost use Rattle.std.specs.Io.BufRead.{Rests};
+ghost use Rattle.mh_engine.specs.contracts.receiver.Receiver.{the_row};
+ghost use Rattle.mh_model.specs.Picture.{shown};
 ghost use Rattle.mh_model.specs.State.{begun};
 ghost use Rattle.mh_model.specs.Stuck.{front_fault};
 ghost use Rattle.mh_model.specs.Limits.{most_steps};
@@ -19,7 +23,7 @@ ghost use Rattle.mh_engine.specs.Told.{IsTold};
 use crate::engine::Engine;
 use crate::refusal::{StartError, Unaccepted};
 use mh_machine::{Refused, RefusedFile, RefusedWhy, StepError, Stepped};
-use mh_model::{File, Input, Outcome, Signature};
+use mh_model::{File, Input, Outcome, Picture, Signature};
 use mh_resident::{Resident, call_program, same_signatures, signatures_of};
 use mh_service::Service;
 use mh_verify::Accepted;
@@ -126,7 +130,15 @@ impl<P: Resident> Receiver<P> {
         }
     }
 
-    /// The engine, for its picture, its steps and its faults.
+    /// The picture that is shown. What is left to be painted is painted now.
+    pub fn picture(&mut self) -> &Picture
+        ensures* same { sem 𝓛 (Rests (the_row P.row) self.entry (λ n. (n.engine ≡ self.old.engine) × (n.programs ≡ self.old.programs))) }
+        ensures shown { result.now ≡ shown self.old.engine.state }
+    {
+        self.engine.picture()
+    }
+
+    /// The engine, for its steps and its faults.
     pub fn engine(&self) -> &Engine
         ensures { result.now ≡ self.now.engine }
     {

@@ -102,7 +102,7 @@ impl Live {
             OnOk result (text.new ≡ text.old ++ drawn self.old.shown screen) }
         ensures shown { OnOk result (self.new ≡ record self.old { shown = Some (screen_of self.old.play) }) }
     {
-        let screen = screen_of(self.alloc, &self.engine)?;
+        let screen = screen_of(self.alloc, &mut self.engine)?;
         put_screen(text, self.shown.as_ref(), &screen)?;
         keep(&mut self.shown, screen);
         Ok(())

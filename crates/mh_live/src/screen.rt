@@ -25,8 +25,9 @@ impl Model for Screen {
 }
 
 /// What is to be shown of the engine.
-pub fn screen_of(alloc: Global, engine: &Engine) -> Result<Screen, AllocError>
-    ensures { IfOk result (λ screen. screen ≡ spec.screen_of engine.now) }
+pub fn screen_of(alloc: Global, engine: &mut Engine) -> Result<Screen, AllocError>
+    ensures screen { IfOk result (λ screen. screen ≡ spec.screen_of engine.old) }
+    ensures same { engine.new ≡ engine.old }
 {
     let lines = lines_below(alloc, engine)?;
     let picture = copy_of(alloc, engine.picture())?;

@@ -1,5 +1,6 @@
 pub mod ChangeLemmas
 pub mod TimeLemmas
+pub mod MarkLemmas
 pub mod PlacingLemmas
 pub mod PlanLemmas
 pub mod StageLemmas
@@ -9,3 +10,4 @@ pub mod ByClassLemmas
 pub mod SumLemmas
 pub mod TestLemmas
 pub mod TurnLemmas
+pub mod WaitingLemmas

@@ -116,7 +116,7 @@ risen_moved f rs r (reorder.Below q) u none = risen_below f (without r rs) r q u
 
 -- Bodies that change.
 
-found_changed : (f : Fixed → Body → Body) (r : ObjRef) (os : List Object) → object_at r (changed_in f r os) ≡ option_map (on_body f) (object_at r os)
+pub found_changed : (f : Fixed → Body → Body) (r : ObjRef) (os : List Object) → object_at r (changed_in f r os) ≡ option_map (on_body f) (object_at r os)
 found_changed f r [] = refl
 found_changed f r (o ∷ os) = by (is_at r o) refl (found_changed f r os)
   where
@@ -125,7 +125,7 @@ found_changed f r (o ∷ os) = by (is_at r o) refl (found_changed f r os)
     by false e others = ap (λ (t : Bool). if t then Some o else object_at r (changed_in f r os)) e ∙ others
 
 -- where it paints nothing before the change and behind it, each reference paints what it painted
-paint_changed : (f : Fixed → Body → Body) (r : ObjRef) (os : List Object) (c : ℕ) → paint_at os c r ≡ nothing → painted c (option_map (on_body f) (object_at r os)) ≡ nothing
+pub paint_changed : (f : Fixed → Body → Body) (r : ObjRef) (os : List Object) (c : ℕ) → paint_at os c r ≡ nothing → painted c (option_map (on_body f) (object_at r os)) ≡ nothing
     → (at : ObjRef) → paint_at (changed_in f r os) c at ≡ paint_at os c at
 paint_changed f r [] c before after at = refl
 paint_changed f r (o ∷ os) c before after at =
@@ -167,7 +167,7 @@ paint_given v r at (o ∷ os) c =
     looks _ =
         ap (λ (ls : List Line). text_paint (area_of o) (colour_of attribute.BackgroundColour transparent_black o) (colour_of attribute.TextColour opaque_white o) ls c) (lines (shown_text o))
 
-same_cells : (os after : List Object) (stack : List ObjRef) (c : ℕ) → ((at : ObjRef) → paint_at after c at ≡ paint_at os c at) → cell_at after stack c ≡ cell_at os stack c
+pub same_cells : (os after : List Object) (stack : List ObjRef) (c : ℕ) → ((at : ObjRef) → paint_at after c at ≡ paint_at os c at) → cell_at after stack c ≡ cell_at os stack c
 same_cells os after stack c same =
     cell-risen after stack c
     ∙ ap as_cell (risen_same (paint_at os c) (paint_at after c) stack ((32, 0), 0) same)

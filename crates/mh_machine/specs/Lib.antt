@@ -1,5 +1,7 @@
 pub mod Holds
 pub mod Judging
+pub mod Lent
+pub mod Marks
 pub mod Plans
 pub mod Rest
 pub mod Stage

@@ -1,10 +1,11 @@
 -- Taking what waits first.
-use Rattle.std.specs.Prelude.{ℕ, ℤ, Bool, ◌+◌, List, [], ◌∷◌, drop, filter, map, Option, Some, None}
+use Rattle.std.specs.Prelude.{ℤ, Bool, ◌+◌, List, [], ◌∷◌, drop, filter, map, Option, Some, None}
 use Rattle.mh_model.specs.declared.event.Event.{Event}
 use Rattle.mh_model.specs.declared.object.Object.{Object}
 use Rattle.mh_model.specs.State.{State}
-use Rattle.mh_model.specs.declared.file.Wait.{Wait}
-use Rattle.mh_model.specs.Step.{is_streaming, stream_event, is_waiting, content_event}
+use Rattle.mh_base.specs.declared.obj_ref.ObjRef.{ObjRef}
+use Rattle.mh_model.specs.Step.{is_streaming, stream_event, content_event}
+use Rattle.mh_machine.specs.Marks.{is_meant}
 
 -- the state with the first that waits taken from the queue, and the step counted
 abbrev pub shifted : State → State
@@ -15,9 +16,9 @@ abbrev pub event_by : (Object → Bool) → (Object → Event) → Option Object
 event_by is event None = []
 event_by is event (Some o) = map event (filter is (o ∷ []))
 
--- if it waits for the file
-abbrev pub content_by : List ℕ → List Wait → Option Object → List Event
-content_by name ws o = event_by (is_waiting name ws) content_event o
+-- if it is one of those that wait for the file
+abbrev pub content_by : List ObjRef → Option Object → List Event
+content_by rs o = event_by (is_meant rs) content_event o
 
 -- if it is a stream that runs
 abbrev pub told_by : ℤ → Option Object → List Event

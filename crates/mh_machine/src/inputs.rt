@@ -5,16 +5,17 @@ ghost use Rattle.mh_model.specs.Service.{parts};
 ghost use Rattle.mh_model.specs.State.{all};
 ghost use Rattle.mh_model.specs.Step as spec;
 ghost use Rattle.mh_work.specs.Links.{IsIndex};
+ghost use Rattle.mh_machine.specs.Marks.{is_meant};
 ghost use Rattle.mh_machine.specs.Taking.{told_by, content_by};
 ghost use Rattle.mh_work.specs.Batches.{written};
 
+use crate::stage::marking::is_among;
 use mh_base::{EventType, GroupName, ObjRef, Value};
-use mh_carousel::Carousel;
 use mh_group::{Attribute, Class};
 use mh_model::held::as_int;
 use mh_model::parts::group_ref;
 use mh_model::{Event, Key, Object};
-use mh_store::{Awaits, Objects};
+use mh_store::Objects;
 use mh_work::{Batch, Links};
 use std::alloc::{AllocError, Global};
 
@@ -113,51 +114,35 @@ fn stream_event(tag: i32, object: &Object) -> Result<Event, AllocError>
     })
 }
 
-/// The objects that wait for the file of this name.
-#[derive(Clone, Copy)]
-pub struct WaitingFor<'a> {
-    pub carousel: &'a Carousel,
-    pub name: &'a GroupName,
-}
-
-impl<'a> Awaits for WaitingFor<'a> {
-    ghost use Rattle.mh_model.specs.Files.{waits_for};
-
-    ghost is = { λ w r. waits_for w.name.now w.carousel.now.waits r };
-
-    fn awaits(&self, at: &ObjRef) -> bool {
-        self.carousel.waits(self.name, at)
-    }
-}
-
-/// The events of the objects that wait for the file of this name, in the order of the objects.
+/// The events of these objects, which wait for a file, in the order of all objects.
 pub fn content_events(
     alloc: Global,
-    name: &GroupName,
-    carousel: &Carousel,
+    waiting: &[ObjRef],
     objects: &Objects,
 ) -> Result<Vec<Event>, AllocError>
     ensures { IfOk result (λ events. events.items ≡ map spec.content_event
-        (filter (spec.is_waiting name.now carousel.now.waits) (all objects.now))) }
+        (filter (is_meant waiting.now) (all objects.now))) }
 {
     let mut events = Vec::new(alloc);
+    if waiting.is_empty() {
+        return Ok(events);
+    }
     for place in 0..objects.len() {
-        push_content_event(&mut events, name, carousel, objects.at(place))?;
+        push_content_event(&mut events, waiting, objects.at(place))?;
     }
     Ok(events)
 }
 
 fn push_content_event(
     events: &mut Vec<Event>,
-    name: &GroupName,
-    carousel: &Carousel,
+    waiting: &[ObjRef],
     found: Option<&Object>,
 ) -> Result<(), AllocError>
     ensures { OnOk result (events.new.items ≡ events.old.items
-        ++ content_by name.now carousel.now.waits (option_copied found.entry)) }
+        ++ content_by waiting.now (option_copied found.entry)) }
 {
     match found {
-        Some(object) if carousel.waits(name, &object.fixed.get().key) => {
+        Some(object) if is_among(waiting, &object.fixed.get().key) => {
             events.push(content_event(object)?)?;
             Ok(())
         }

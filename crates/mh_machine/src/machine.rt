@@ -1,5 +1,5 @@
 //! `Machine`: the state of the object machine, with the picture that it shows.
-ghost use Rattle.std.specs.Prelude.{◌≡◌, ◌+◌, ◌<◌, ◌^◌, map, true, false, [], None, Some, IfOk, IfErr, OnOk, OnErr, IsErrOf, IsErrAnd, MatchOption};
+ghost use Rattle.std.specs.Prelude.{◌≡◌, map, true, false, [], None, Some, IfOk, IfErr, OnOk, OnErr, IsErrOf, IsErrAnd, MatchOption};
 ghost use Rattle.mh_model.specs.declared.input.Obstacle.{Obstacle};
 ghost use Rattle.mh_model.specs.Limits.{most_steps};
 ghost use Rattle.mh_model.specs.Stuck.{front_fault};
@@ -7,7 +7,9 @@ ghost use Rattle.mh_model.specs.Picture.{shown};
 ghost use Rattle.mh_model.specs.Receiver.{call_next, told};
 ghost use Rattle.mh_model.specs.State.{begun};
 ghost use Rattle.mh_model.specs.Step.{advanced, posted, step, obstacle, preset, preset_obstacle, is_settled};
+ghost use Rattle.std.specs.Borrow.{sem};
 ghost use Rattle.mh_machine.specs.Judging.{AreAllowed};
+ghost use Rattle.mh_machine.specs.Lent.{MachineStays};
 ghost use Rattle.mh_machine.specs.Refusal.{post_refusal, preset_refusal, refusal_for, step_refusal};
 ghost use Rattle.mh_machine.specs.Rest.{answer_of, rest_of};
 ghost use Rattle.mh_machine.specs.Working.{IsPartly};
@@ -28,14 +30,11 @@ pub struct Machine {
 }
 
 impl Model for Machine {
-    ghost use Rattle.mh_display.specs.Surface.{IsClean};
     ghost use Rattle.mh_model.specs.State.{State};
 
     ghost Value = { State };
 
     ghost view = { λ m. m.works.state };
-
-    ghost invariant = { λ m. IsClean m.works.marks };
 }
 
 impl Machine {
@@ -132,33 +131,18 @@ impl Machine {
         if self.taken() == u64::MAX {
             return Err(StepError::CountFull);
         }
-        let answer = self.step_counted::<J>()?;
+        let answer = self.works.step::<J>()?;
         Ok(answer)
     }
 
-    /// One step, which is counted.
-    fn step_counted<J: Judging>(&mut self) -> Result<Stepped, AllocError>
-        requires room { self.old.taken + 1 < 2 ^ 64 }
-        requires allowed { J.allows (front_fault self.old) }
-        ensures step { OnOk result (self.new ≡ step self.old) }
-        ensures answer { IfOk result (λ a. a ≡ answer_of self.old) }
-        ensures kept { OnErr result (self.new ≡ self.old) }
-    {
-        let answer = self.works.step::<J>();
-        self.works.settle();
-        answer
-    }
-
-    /// Makes so many steps, or as many as there is something to do and as are counted. The picture is
-    /// painted once, behind the last. Where memory is refused, some of the steps were made.
+    /// Makes so many steps, or as many as there is something to do and as are counted. Where memory is
+    /// refused, some of the steps were made.
     pub fn advance<J: Judging>(&mut self, most: u32) -> Result<(), AllocError>
         requires { AreAllowed J.allows most self.old }
         ensures all { OnOk result (self.new ≡ advanced most self.old) }
         ensures some { OnErr result (IsPartly most self.old self.new) }
     {
-        let made = self.works.advance::<J>(most);
-        self.works.settle();
-        made
+        self.works.advance::<J>(most)
     }
 
     /// Whether nothing is left to do.
@@ -195,9 +179,11 @@ impl Machine {
         self.works.faults.as_slice()
     }
 
-    /// The picture that the state shows.
-    pub fn picture(&self) -> &Picture
-        ensures { result.now ≡ shown self.now }
+    /// The picture that the state shows. What the steps so far have left to be painted is painted now, which wants
+    /// no memory and changes nothing of the state; so steps whose picture nobody asks for cost no painting.
+    pub fn picture(&mut self) -> &Picture
+        ensures* same { sem 𝓛 (MachineStays self.entry) }
+        ensures shown { result.now ≡ shown self.old }
     {
         self.works.picture()
     }

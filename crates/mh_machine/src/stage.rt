@@ -1,9 +1,13 @@
 //! `Stage`: the objects, the display stack and the screen, which change together.
 //!
 //! What a change can be seen in is marked, and painted when the picture is wanted.
+
+pub(crate) mod marking;
+
 ghost use Rattle.std.specs.Prelude.{◌≡◌, ◌≤◌, [], false, filter, IfOk, OnOk, OnErr};
+ghost use Rattle.std.specs.Borrow.{sem};
 ghost use Rattle.std.specs.Str.{bytes_eq};
-ghost use Rattle.mh_display.specs.Surface.{IsClean, Spoils};
+ghost use Rattle.mh_display.specs.Surface.{IsClean};
 ghost use Rattle.mh_model.specs.Bodies.{given};
 ghost use Rattle.mh_model.specs.Edits.{edited};
 ghost use Rattle.mh_model.specs.Picture.{picture};
@@ -12,15 +16,18 @@ ghost use Rattle.mh_group.specs.Table.{is_visible};
 ghost use Rattle.mh_model.specs.Rules.{all_placed, changed, text_brought};
 ghost use Rattle.mh_model.specs.Service.{object_at, parts};
 ghost use Rattle.mh_model.specs.State.{all};
+ghost use Rattle.mh_machine.specs.Lent.{StageStays};
+ghost use Rattle.mh_machine.specs.Marks.{is_among};
 ghost use Rattle.mh_machine.specs.Plans.{restacked};
 
 use crate::plan::Stacking;
+use crate::stage::marking::{WaitingFor, spoil_at, spoil_each, spoil_placed};
 use mh_actions::ordering::Reorder;
 use mh_base::{GroupName, ObjRef, Octets, Value};
 use mh_display::{Screen, Stack};
 use mh_group::Position;
 use mh_model::{Edit, Picture};
-use mh_store::{Awaits, Group, Objects};
+use mh_store::{Group, Objects};
 use std::alloc::{AllocError, Global};
 use std::marker::Model;
 
@@ -55,7 +62,6 @@ impl Stage {
     pub fn new(alloc: Global, application: Group) -> Result<Stage, AllocError>
         ensures objects { IfOk result (λ s. s.objects ≡ record { application = application; scene = [] }) }
         ensures stack { IfOk result (λ s. s.stack ≡ []) }
-        ensures clean { IfOk result (λ s. IsClean s.marks) }
     {
         let screen = Screen::new(alloc)?;
         Ok(Stage {
@@ -151,22 +157,30 @@ impl Stage {
         ensures others { parts self.new.objects.scene ≡ parts self.old.objects.scene }
         ensures kept { OnErr result (self.new.objects ≡ self.old.objects) }
     {
+        spoil_placed(&mut self.screen, &self.objects, placed);
         let _ = self.objects.edit_and_place(at, edit, placed)?;
-        self.screen.spoil_all();
+        spoil_placed(&mut self.screen, &self.objects, placed);
         Ok(())
     }
 
-    /// Gives the objects that are meant this text. Where memory is refused everything stays as it was.
-    pub fn bring_text<A: Awaits>(&mut self, awaiting: &A, text: &Octets) -> Result<(), AllocError>
+    /// Gives these objects this text, which can be seen in their boxes. Where memory is refused everything stays as it
+    /// was.
+    pub fn bring_text(&mut self, waiting: &[ObjRef], text: &Octets) -> Result<(), AllocError>
         ensures done { OnOk result (self.new.objects
-            ≡ text_brought (A.is awaiting.now) text.now self.old.objects) }
+            ≡ text_brought (is_among waiting.now) text.now self.old.objects) }
         ensures stack { self.new.stack ≡ self.old.stack }
         ensures own { parts self.new.objects.application ≡ parts self.old.objects.application }
         ensures others { parts self.new.objects.scene ≡ parts self.old.objects.scene }
         ensures kept { OnErr result (self.new.objects ≡ self.old.objects) }
     {
-        let _ = self.objects.bring_text(awaiting, text)?;
-        self.screen.spoil_all();
+        if waiting.is_empty() {
+            return Ok(());
+        }
+        spoil_each(&mut self.screen, &self.objects, waiting);
+        let _ = self
+            .objects
+            .bring_text(&WaitingFor { objects: waiting }, text)?;
+        spoil_each(&mut self.screen, &self.objects, waiting);
         Ok(())
     }
 
@@ -223,7 +237,7 @@ impl Stage {
     }
 
     /// Paints what is to be painted.
-    pub fn settle(&mut self)
+    fn settle(&mut self)
         ensures objects { self.new.objects ≡ self.old.objects }
         ensures stack { self.new.stack ≡ self.old.stack }
         ensures clean { IsClean self.new.marks }
@@ -231,24 +245,23 @@ impl Stage {
         self.screen.repaint(&self.objects, self.stack.as_slice());
     }
 
+    /// The picture. What is to be painted is painted now.
+    pub fn picture(&mut self) -> &Picture
+        ensures* same { sem 𝓛 (StageStays self.entry) }
+        ensures shown { result.now ≡ picture (all self.old.objects) self.old.stack }
+    {
+        self.settle();
+        self.painted()
+    }
+
     /// The picture, where all of it is painted.
-    pub fn picture(&self) -> &Picture
+    fn painted(&self) -> &Picture
         requires { IsClean self.now.marks }
         ensures { result.now ≡ picture (all self.now.objects) self.now.stack }
     {
         let picture = self.screen.picture();
         let _ = picture.cells();
         picture
-    }
-}
-
-/// The object at this reference is to be painted anew. Where all is, the object is not even looked for.
-fn spoil_at(screen: &mut Screen, objects: &Objects, at: &ObjRef)
-    ensures same { screen.new.planes ≡ screen.old.planes }
-    ensures spoilt { Spoils (object_at at.now (all objects.now)) screen.old.marks screen.new.marks }
-{
-    if !screen.is_spoilt() {
-        screen.spoil(objects.get(at));
     }
 }
 

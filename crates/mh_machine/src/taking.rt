@@ -1,8 +1,6 @@
 //! What waits first is taken from the queue.
 ghost use Rattle.std.specs.Prelude.{◌≡◌, ◌+◌, ◌<◌, ◌≤◌, ◌^◌, None, Some, IfOk, OnOk, OnErr, slice_get};
-ghost use Rattle.mh_model.specs.Files.{arrived, waits_for, with_file};
-ghost use Rattle.mh_model.specs.Rules.{text_brought};
-ghost use Rattle.mh_model.specs.Service.{parts};
+ghost use Rattle.mh_model.specs.Files.{arrived, with_file};
 ghost use Rattle.mh_model.specs.State.{all};
 ghost use Rattle.mh_model.specs.Step as spec;
 ghost use Rattle.mh_machine.specs.Rest.{answer_by};
@@ -10,9 +8,8 @@ ghost use Rattle.mh_work.specs.Batches.{written};
 ghost use Rattle.mh_machine.specs.Taking.{shifted};
 
 use crate::Stepped;
-use crate::inputs::{WaitingFor, content_events, engine_event, key_batches, stream_events};
+use crate::inputs::{content_events, engine_event, key_batches, stream_events};
 use crate::plan::focus::copied_interaction;
-use crate::stage::Stage;
 use crate::works::Works;
 use mh_carousel::Carousel;
 use mh_events::Agenda;
@@ -143,11 +140,11 @@ impl Works {
         ensures kept { OnErr result (self.new.state ≡ self.old.state) }
     {
         let kept = copied_file(file)?;
-        let objects = self.stage.objects();
-        let events = content_events(self.alloc, &file.name, &self.carousel, objects)?;
+        let waiting = self.carousel.waiting(self.alloc, &file.name)?;
+        let events = content_events(self.alloc, waiting.as_slice(), self.stage.objects())?;
         self.agenda.reserve(events.len())?;
         self.carousel.reserve_file()?;
-        bring(&mut self.stage, &self.carousel, file)?;
+        self.stage.bring_text(waiting.as_slice(), &file.content)?;
         self.agenda.take_reserved(events);
         arrive(&mut self.carousel, kept);
         self.taken += 1;
@@ -191,22 +188,6 @@ fn copied(waiting: &Waiting) -> Result<Waiting, AllocError>
     ensures { IfOk result (λ copy. copy ≡ waiting.now) }
 {
     waiting.clone()
-}
-
-/// Brings the text of a file to the objects that wait for it.
-fn bring(stage: &mut Stage, carousel: &Carousel, file: &File) -> Result<(), AllocError>
-    ensures done { let is = waits_for file.now.name carousel.now.waits in
-        OnOk result (stage.new.objects ≡ text_brought is file.now.content stage.old.objects) }
-    ensures stack { stage.new.stack ≡ stage.old.stack }
-    ensures own { parts stage.new.objects.application ≡ parts stage.old.objects.application }
-    ensures others { parts stage.new.objects.scene ≡ parts stage.old.objects.scene }
-    ensures kept { OnErr result (stage.new.objects ≡ stage.old.objects) }
-{
-    let waiting = WaitingFor {
-        carousel,
-        name: &file.name,
-    };
-    stage.bring_text(&waiting, &file.content)
 }
 
 /// The file is there, and nobody waits for it any more.

@@ -1,14 +1,15 @@
 //! `Works`: what a machine is made of, between two of its pictures.
 //!
-//! A step marks the cells in which it can be seen, and paints nothing; `settle` paints them. So a machine
-//! that makes many steps at once paints once.
+//! A step marks the cells in which it can be seen, and paints nothing; they are painted where the picture is
+//! asked for. So many steps are painted once, and those whose picture nobody asks for never.
 ghost use Rattle.std.specs.Prelude.{◌≡◌, ◌∷◌, [], ◌+◌, ◌<◌, ◌^◌, None, IfOk, IfErr, OnOk, OnErr, map};
-ghost use Rattle.mh_display.specs.Surface.{IsClean};
+ghost use Rattle.std.specs.Borrow.{sem};
 ghost use Rattle.mh_model.specs.Service.{group_parts, fresh, parts};
 ghost use Rattle.mh_model.specs.State.{begun, all};
 ghost use Rattle.mh_model.specs.Step.{is_idle, is_settled};
 ghost use Rattle.mh_model.specs.Picture.{shown};
 ghost use Rattle.mh_model.specs.Planes.{blank};
+ghost use Rattle.mh_machine.specs.Lent.{WorksStay};
 ghost use Rattle.mh_work.specs.Links.{IsIndex};
 
 use crate::Unstarted;
@@ -93,7 +94,6 @@ impl Works {
     /// refused the service is handed back.
     pub fn new(alloc: Global, service: Service, mjd: u32) -> Result<Works, Unstarted>
         ensures begun { IfOk result (λ works. works.state ≡ begun service mjd) }
-        ensures clean { IfOk result (λ works. IsClean works.marks) }
         ensures back { IfErr result (λ unstarted. unstarted.service ≡ service) }
     {
         match prepare(alloc, &service) {
@@ -106,14 +106,12 @@ impl Works {
         requires application { beginning.application ≡ service.start }
         requires objects { beginning.stage.objects ≡ record { application = map fresh (group_parts service service.start); scene = [] } }
         requires stack { beginning.stage.stack ≡ [] }
-        requires clean { IsClean beginning.stage.marks }
         requires own { parts beginning.stage.objects.application ≡ group_parts service service.start }
         requires links { IsIndex beginning.links (parts (all beginning.stage.objects)) }
         requires work { beginning.work.items ≡ Item.Enter service.start ∷ [] }
         requires frozen { beginning.frozen ≡ blank }
         requires late { beginning.late.items ≡ service.late }
         ensures begun { result.state ≡ begun service mjd }
-        ensures clean { IsClean result.marks }
     {
         let Beginning {
             application,
@@ -160,18 +158,11 @@ impl Works {
         self.ended || self.is_idle()
     }
 
-    /// Paints what the steps so far have left to be painted.
-    pub fn settle(&mut self)
-        ensures same { self.new.state ≡ self.old.state }
-        ensures clean { IsClean self.new.marks }
-    {
-        self.stage.settle();
-    }
-
-    /// The picture that the state shows, where all of it is painted.
-    pub fn picture(&self) -> &Picture
-        requires { IsClean self.now.marks }
-        ensures { result.now ≡ shown self.now.state }
+    /// The picture that the state shows. What the steps so far have left to be painted is painted now, unless the
+    /// screen is locked.
+    pub fn picture(&mut self) -> &Picture
+        ensures* same { sem 𝓛 (WorksStay self.entry) }
+        ensures shown { result.now ≡ shown self.old.state }
     {
         if self.locks == 0 {
             self.stage.picture()
@@ -196,7 +187,6 @@ fn prepare(alloc: Global, service: &Service) -> Result<Beginning, AllocError>
     ensures application { IfOk result (λ parts. parts.application ≡ service.now.start) }
     ensures objects { IfOk result (λ found. found.stage.objects ≡ record { application = map fresh (group_parts service.now service.now.start); scene = [] }) }
     ensures stack { IfOk result (λ found. found.stage.stack ≡ []) }
-    ensures clean { IfOk result (λ found. IsClean found.stage.marks) }
     ensures own { IfOk result (λ found. parts found.stage.objects.application ≡ group_parts service.now service.now.start) }
     ensures links { IfOk result (λ found. IsIndex found.links (parts (all found.stage.objects))) }
     ensures work { IfOk result (λ parts. parts.work.items ≡ Item.Enter service.now.start ∷ []) }

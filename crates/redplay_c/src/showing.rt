@@ -25,8 +25,9 @@ impl Session {
     }
 
     /// The cells from the beginning of a row on, as many as there are places for.
-    pub fn cells(&self, row: usize, cells: &mut [Cell]) -> u32
-        ensures { AreCells (shown self.now.engine.state) row cells.old cells.new result }
+    pub fn cells(&mut self, row: usize, cells: &mut [Cell]) -> u32
+        ensures copied { AreCells (shown self.old.engine.state) row cells.old cells.new result }
+        ensures same { self.new ≡ self.old }
     {
         if !has_cells(row, cells.len()) {
             return OUT_OF_RANGE;

@@ -191,7 +191,6 @@ impl Works {
         ensures { self.new.state ≡ locked (taken_from self.old.state) }
     {
         if self.locks == 0 {
-            self.stage.settle();
             self.frozen.copy_from(self.stage.picture());
         }
         self.locks += 1;

@@ -119,7 +119,7 @@ fn put_shown<P: Resident>(shown: &mut Vec<u8>, receiver: &mut Receiver<P>) -> Op
             break;
         }
     }
-    for scalar in receiver.engine().picture().scalars().iter().take(12) {
+    for scalar in receiver.picture().scalars().iter().take(12) {
         shown.push(u8::try_from(*scalar).ok()?).ok()?;
     }
     Some(())

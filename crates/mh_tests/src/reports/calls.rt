@@ -2,7 +2,7 @@
 //! program under a type of its own, and a receiver that is started whatever a verifier would say, with a file
 //! that is there before the first move and one that comes, and runs of it.
 use crate::playing::DAY;
-use crate::reports::refusing::{file, is_told, service, told};
+use crate::reports::refusing::{file, is_told, service, shown, told};
 use mh_base::Value;
 use mh_engine::{Engine, Receiver, Unequipped, run};
 use mh_model::{Builtin, Input, Key, Move, Now};
@@ -105,7 +105,11 @@ fn told_of_files<P: Resident>(
         .post(Input::Arrive(file(alloc, b"x", b"Ho")?))
         .ok()?;
     receiver.run(steps).ok()?;
-    told(alloc, receiver.engine())
+    let taken = receiver.engine().taken();
+    if !receiver.engine().faults().is_empty() {
+        return None;
+    }
+    shown(alloc, receiver.picture(), taken)
 }
 
 fn of_receiver<P: Resident>(

@@ -189,16 +189,21 @@ fn put_changes(text: &mut Text, before: &Picture, after: &Picture) -> Option<()>
 }
 
 /// The rows that are not black, and how many steps were made. None where there were faults.
-pub fn told(alloc: Global, engine: &Engine) -> Option<Text> {
-    let black = Picture::black(alloc).ok()?;
-    let mut text = Text::new(alloc);
-    let put = put_changes(&mut text, &black, engine.picture());
-    let put = put.and(put_total(&mut text, engine.taken()).ok());
-    if engine.faults().is_empty() {
-        put.and(Some(text))
+pub fn told(alloc: Global, engine: &mut Engine) -> Option<Text> {
+    let (taken, is_good) = (engine.taken(), engine.faults().is_empty());
+    if is_good {
+        shown(alloc, engine.picture(), taken)
     } else {
         None
     }
+}
+
+/// The rows of a picture that are not black, and how many steps were made.
+pub fn shown(alloc: Global, picture: &Picture, taken: u64) -> Option<Text> {
+    let black = Picture::black(alloc).ok()?;
+    let mut text = Text::new(alloc);
+    let put = put_changes(&mut text, &black, picture);
+    put.and(put_total(&mut text, taken).ok()).and(Some(text))
 }
 
 pub fn is_told(told: Option<Text>, wanted: &str) -> bool {

@@ -1,9 +1,10 @@
 use Rattle.std.proofs.Common.{◌≡◌}
 use Rattle.std.specs.Prelude.{map, filter, take}
 use Rattle.mh_model.specs.State.{all}
-use Rattle.mh_model.specs.Step.{is_waiting, content_event}
+use Rattle.mh_model.specs.Step.{content_event}
+use Rattle.mh_machine.specs.Marks.{is_meant}
 use Rattle.mh_machine.proofs.inputs.content_events.Given as goal
 
 abbrev pub invariant-loop-place : goal.invariant-loop-place
 invariant-loop-place l =
-    l.events.items ≡ map content_event (filter (is_waiting l.name l.carousel.waits) (take l.place (all l.objects)))
+    l.events.items ≡ map content_event (filter (is_meant l.waiting) (take l.place (all l.objects)))

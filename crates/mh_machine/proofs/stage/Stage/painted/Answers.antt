@@ -3,7 +3,7 @@ use Rattle.mh_model.specs.Picture.{picture}
 use Rattle.mh_model.specs.State.{all}
 use Rattle.mh_machine.specs.Stage.{Staged}
 use Rattle.mh_machine.proofs.StageLemmas.{clean_picture_as}
-use Rattle.mh_machine.proofs.stage.Stage.picture.Goals as goal
+use Rattle.mh_machine.proofs.stage.Stage.painted.Goals as goal
 
 pub returns : goal.returns
 returns c =

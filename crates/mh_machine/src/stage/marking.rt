@@ -1,0 +1,65 @@
+//! The cells in which objects can be seen are marked, so that they are painted anew.
+ghost use Rattle.std.specs.Prelude.{◌≡◌, map};
+ghost use Rattle.mh_display.specs.Surface.{Spoils};
+ghost use Rattle.mh_model.specs.Service.{object_at};
+ghost use Rattle.mh_model.specs.State.{all};
+ghost use Rattle.mh_machine.specs.Marks.{SpoilsEach, is_among};
+
+use mh_base::ObjRef;
+use mh_display::Screen;
+use mh_group::Position;
+use mh_model::parts::same_ref;
+use mh_store::{Awaits, Objects};
+
+/// The objects that wait for a file, each by its reference.
+#[derive(Clone, Copy)]
+pub(crate) struct WaitingFor<'a> {
+    pub objects: &'a [ObjRef],
+}
+
+impl<'a> Awaits for WaitingFor<'a> {
+    ghost use Rattle.mh_machine.specs.Marks.{is_among};
+
+    ghost is = { λ w r. is_among w.objects.now r };
+
+    fn awaits(&self, at: &ObjRef) -> bool {
+        is_among(self.objects, at)
+    }
+}
+
+/// Whether the reference is one of these.
+pub(crate) fn is_among(objects: &[ObjRef], at: &ObjRef) -> bool
+    ensures { result ≡ is_among objects.now at.now }
+{
+    objects.iter().any(|object| same_ref(at, object))
+}
+
+/// The object at this reference is to be painted anew. Where all is, the object is not even looked for.
+pub(crate) fn spoil_at(screen: &mut Screen, objects: &Objects, at: &ObjRef)
+    ensures same { screen.new.planes ≡ screen.old.planes }
+    ensures spoilt { Spoils (object_at at.now (all objects.now)) screen.old.marks screen.new.marks }
+{
+    if !screen.is_spoilt() {
+        screen.spoil(objects.get(at));
+    }
+}
+
+/// The objects at these references are to be painted anew.
+pub(crate) fn spoil_each(screen: &mut Screen, objects: &Objects, each: &[ObjRef])
+    ensures same { screen.new.planes ≡ screen.old.planes }
+    ensures spoilt { SpoilsEach (all objects.now) each.now screen.old.marks screen.new.marks }
+{
+    for at in each {
+        spoil_at(screen, objects, at);
+    }
+}
+
+/// The objects that are placed are to be painted anew.
+pub(crate) fn spoil_placed(screen: &mut Screen, objects: &Objects, placed: &[(ObjRef, Position)])
+    ensures same { screen.new.planes ≡ screen.old.planes }
+    ensures spoilt { SpoilsEach (all objects.now) (map (λ p. p.0) placed.now) screen.old.marks screen.new.marks }
+{
+    for place in placed {
+        spoil_at(screen, objects, &place.0);
+    }
+}
