@@ -5,7 +5,7 @@ use crate::machine::service::Asked;
 use mh_base::{GroupName, ObjRef};
 use mh_cases::{said, word};
 use mh_flow::chain::chain;
-use mh_flow::{Equipped, Flow, Link, flow_of};
+use mh_flow::{Equipped, Link, flow_of};
 use mh_model::Config;
 use mh_paths::{Arrow, Graph, first_chains, first_cycle, is_chain};
 use mh_service::Service;
@@ -56,25 +56,48 @@ fn told(alloc: Global, service: &Service, asked: &str) -> Option<Vec<u8>> {
     let config = config(alloc, word(asked, 1))?;
     let holder = reference(alloc, word(asked, 2), word(asked, 3))?;
     let at = reference(alloc, word(asked, 4), word(asked, 5))?;
-    let whole = Equipped::new(service, &[]);
-    let Ok(flow) = flow_of(alloc, &whole) else {
+    let (held, links) = traced(alloc, &Equipped::new(service, &[]), &config, &holder, &at)?;
+    chain_told(alloc, held, links)
+}
+
+/// Whether the second may be held by the first, and the chain. The flow is gone before anything is told of it.
+fn traced(
+    alloc: Global,
+    whole: &Equipped<'_>,
+    config: &Config,
+    holder: &ObjRef,
+    at: &ObjRef,
+) -> Option<(bool, Option<Vec<Link>>)> {
+    let Ok(flow) = flow_of(alloc, whole) else {
         return None;
     };
-    let held = flow.holds(&whole, &config, &holder, &at);
-    match chain(alloc, &whole, &flow, &config, &holder, &at) {
-        Ok(Some(links)) if held => links_told(alloc, links.as_slice()),
-        Ok(None) if !held => said(alloc, b"not held"),
-        Ok(_) => said(alloc, b"chain and flow differ"),
-        Err(_) => None,
+    let held = flow.holds(whole, config, holder, at);
+    let chain = chain(alloc, whole, &flow, config, holder, at);
+    drop(flow);
+    Some((held, chain.ok()?))
+}
+
+fn chain_told(alloc: Global, held: bool, links: Option<Vec<Link>>) -> Option<Vec<u8>> {
+    match links {
+        Some(links) if held => links_told(alloc, links.as_slice()),
+        None if !held => said(alloc, b"not held"),
+        _ => said(alloc, b"chain and flow differ"),
     }
 }
 
 /// How many configurations are reached.
 fn count(alloc: Global, service: &Service) -> Option<Vec<u8>> {
-    let whole = Equipped::new(service, &[]);
-    let flow: Flow = flow_of(alloc, &whole).ok()?;
-    let configs = flow.configs(alloc).ok()?;
-    Some(format!(in alloc; "{}", configs.len()).ok()?.into_bytes())
+    let reached = reached(alloc, &Equipped::new(service, &[]))?;
+    Some(format!(in alloc; "{reached}").ok()?.into_bytes())
+}
+
+fn reached(alloc: Global, whole: &Equipped<'_>) -> Option<usize> {
+    let Ok(flow) = flow_of(alloc, whole) else {
+        return None;
+    };
+    let configs = flow.configs(alloc);
+    drop(flow);
+    Some(configs.ok()?.len())
 }
 
 /// What is answered of a service: `held SCENE GROUP NUMBER GROUP NUMBER`, whether the second may be held by the first and
