@@ -1,5 +1,8 @@
 pub mod HarmlessLemmas
 pub mod PlacesLemmas
+pub mod LinesLemmas
+pub mod StopLemmas
+pub mod WindowLemmas
 pub mod AdviceLemmas
 pub mod MeantLemmas
 pub mod ValueLemmas

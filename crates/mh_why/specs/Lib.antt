@@ -23,5 +23,6 @@ pub mod Further
 pub mod Cases
 pub mod Why
 pub mod Places
+pub mod Lines
 pub mod Octets
 pub mod Lint

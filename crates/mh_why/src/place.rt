@@ -4,15 +4,21 @@
 //! What stands in the file never tells the terminal what to do: each character that would is shown
 //! as U+FFFD.
 
+pub(crate) mod line;
+pub(crate) mod lines;
 pub(crate) mod octets;
+pub(crate) mod stop;
 pub(crate) mod window;
 
-ghost use Rattle.std.specs.Prelude.{◌≡◌, ◌≤◌, ◌<◌, ◌^◌, ◌++◌, OnOk, IfOk, length, take, drop, replicate};
+ghost use Rattle.std.specs.Prelude.{◌≡◌, ◌≤◌, ◌<◌, ◌^◌, ◌-◌, ◌++◌, OnOk, IfOk, length, take, drop, replicate};
 ghost use Rattle.bstr.specs.Text.{without_terminator};
 ghost use Rattle.bstr.specs.Utf8.{lossy_chars};
-ghost use Rattle.mh_why.specs.Places.{characters_of, PlacesAreHarmless, line_at, spaced, place_words, shown_at, shown_place};
+ghost use Rattle.mh_why.specs.Lines.{IsTable, shown_in_column};
+ghost use Rattle.mh_why.specs.Places.{characters_of, PlacesAreHarmless, spaced, place_words, shown_at, shown_place};
 
-use crate::place::window::{first_shown, put_window};
+use crate::place::line::Line;
+use crate::place::lines::Lines;
+use crate::place::window::{LOOKED_AT, MARGIN, first_shown, put_window};
 use crate::wrap::put_paragraph;
 use bstr::ByteSlice;
 use mh_terminal::harmless;
@@ -42,7 +48,6 @@ pub fn places_are_harmless()
 
 /// Puts where so many bytes stand in a file of this name behind so many others: the line and the
 /// column, from 1 on, the line itself, and carets.
-#[tactic(auto, unfolding(crate::specs::Places::shown_place))]
 pub(crate) fn put_place(
     alloc: Global,
     text: &mut Text,
@@ -53,57 +58,75 @@ pub(crate) fn put_place(
 ) -> Result<(), AllocError>
     ensures { OnOk result (text.new ≡ text.old ++ shown_place name.now bytes.now offset size) }
 {
-    let (number, line, before) = line_at(bytes, offset);
-    put_in_line(alloc, text, name, number, line, before, size)
+    let lines = Lines::of_text(alloc, bytes)?;
+    put_place_by(alloc, text, name, bytes, &lines, offset, size)
 }
 
-/// The line in which so many bytes stand before what is meant: its number, the line, and how many of
-/// those bytes are its own. The end of the bytes belongs to the last line. That is another rule than the
-/// one of `mh_places`, which has the end behind a last line feed on a line of its own: here a line is
-/// shown, and there is none.
-fn line_at(bytes: &[u8], offset: usize) -> (u64, &[u8], usize)
-    ensures exact { record { number = result.0; bytes = result.1.now; before = result.2 } ≡ line_at bytes.now offset }
-    ensures within { result.2 ≤ length result.1.now }
+/// The same, where the table of the bytes' lines is known.
+#[tactic(auto, unfolding(crate::specs::Places::shown_place))]
+pub(crate) fn put_place_by(
+    alloc: Global,
+    text: &mut Text,
+    name: &[u8],
+    bytes: &[u8],
+    lines: &Lines,
+    offset: usize,
+    size: usize,
+) -> Result<(), AllocError>
+    requires { IsTable bytes.now lines.now }
+    ensures { OnOk result (text.new ≡ text.old ++ shown_place name.now bytes.now offset size) }
 {
-    let mut number = 0;
-    let mut line: &[u8] = &[];
-    let mut before = offset;
-    for next in bytes.lines_with_terminator() {
-        if before < line.len() {
-            return (number, line, before);
-        }
-        before -= line.len();
-        line = next;
-        number += 1;
-    }
-    (
-        number.max(1),
-        line,
-        before.min(without_terminator(line).len()),
-    )
+    put_in_line(alloc, text, name, &lines.line_at(bytes, offset), size)
 }
 
-/// Puts the place of so many bytes of a line.
+/// Puts a place in a line, with so many bytes meant.
 #[tactic(auto, unfolding(crate::specs::Places::shown_at))]
 fn put_in_line(
     alloc: Global,
     text: &mut Text,
     name: &[u8],
-    number: u64,
-    line: &[u8],
-    before: usize,
+    line: &Line<'_>,
     size: usize,
 ) -> Result<(), AllocError>
-    requires { before ≤ length line.now }
-    ensures { OnOk result (text.new ≡ text.old ++ shown_at name.now (record { number = number; bytes = line.now; before = before }) size) }
+    ensures { OnOk result (text.new ≡ text.old ++ shown_at name.now line.now size) }
 {
-    let column = characters_in(&line[..before]);
-    let characters = characters_of(alloc, line)?;
-    let first = first_shown(characters.as_slice(), column);
-    put_words(alloc, text, name, number, column)?;
-    let rest = characters.get(first..).unwrap_or(&[]);
-    let count = characters_behind(line, before, size);
-    put_window(alloc, text, number, rest, first, column - first, count)
+    let column = line.column();
+    let left_out = column.saturating_sub(MARGIN);
+    let characters = line.characters_behind(alloc, left_out, LOOKED_AT)?;
+    put_words(alloc, text, name, line.number, column)?;
+    put_seen(alloc, text, line, size, column, characters.as_slice())
+}
+
+/// Puts the line of a place in this column, by those of its characters that are looked at.
+fn put_seen(
+    alloc: Global,
+    text: &mut Text,
+    line: &Line<'_>,
+    size: usize,
+    column: usize,
+    characters: &[u32],
+) -> Result<(), AllocError>
+    requires column { column < 2 ^ 63 }
+    requires seen { characters.now ≡ take 111 (drop (column - 40) (characters_of line.now.bytes)) }
+    ensures { OnOk result (text.new ≡ text.old ++ shown_in_column line.now column size) }
+{
+    let first = first_shown(characters, column);
+    let more = first - column.saturating_sub(MARGIN);
+    put_window(
+        alloc,
+        text,
+        line.number,
+        behind(characters, more),
+        first,
+        column - first,
+        line.characters_meant(size),
+    )
+}
+
+fn behind(characters: &[u32], count: usize) -> &[u32]
+    ensures { result.now ≡ drop count characters.now }
+{
+    characters.get(count..).unwrap_or(&[])
 }
 
 /// The characters of a line as they are shown.
@@ -117,22 +140,8 @@ pub(crate) fn characters_of(alloc: Global, line: &[u8]) -> Result<Vec<u32>, Allo
     Ok(characters)
 }
 
-/// How many characters of a line there are in so many bytes behind so many others, or up to its end
-/// where there are fewer.
-fn characters_behind(line: &[u8], before: usize, size: usize) -> usize
-    ensures { result ≡ length (lossy_chars (take size (drop before (without_terminator line.now)))) }
-{
-    characters_from(without_terminator(line), before, size)
-}
-
-fn characters_from(bytes: &[u8], before: usize, size: usize) -> usize
-    ensures { result ≡ length (lossy_chars (take size (drop before bytes.now))) }
-{
-    let behind = bytes.get(before..).unwrap_or(&[]);
-    characters_in(behind.get(..size).unwrap_or(behind))
-}
-
-fn characters_in(bytes: &[u8]) -> usize
+/// How many characters these bytes are.
+pub(crate) fn characters_in(bytes: &[u8]) -> usize
     ensures exact { result ≡ length (lossy_chars bytes.now) }
     ensures within { result ≤ length bytes.now }
 {
@@ -162,7 +171,7 @@ fn put_words(
 }
 
 /// The character that is shown for one of a line: a space for a tab.
-fn spaced(scalar: u32) -> u32
+pub(crate) fn spaced(scalar: u32) -> u32
     ensures { result ≡ spaced scalar }
 {
     match scalar {

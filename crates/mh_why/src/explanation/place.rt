@@ -13,7 +13,6 @@ ghost use Rattle.mh_why.specs.Sources.{shown_mark, shown_numbered, shown_action,
 use crate::explanation::token::token_size;
 use crate::files::shown::{Source, source_named};
 use crate::place::octets::put_octet;
-use crate::place::put_place;
 use mh_text::{Landmark, Mark, Sight, landmarks, mark_of};
 use mh_told::text::Text;
 use std::alloc::{AllocError, Global};
@@ -81,9 +80,9 @@ pub(crate) fn put_in(
         let mut title = Text::new(alloc);
         title.put(name)?;
         title.put(AS_PRINTED)?;
-        return put_place(alloc, text, title.as_slice(), source.text(), start, size);
+        return source.put_place(alloc, text, title.as_slice(), start, size);
     }
-    put_place(alloc, text, name, source.text(), start, size)
+    source.put_place(alloc, text, name, start, size)
 }
 
 /// Puts where an object of this group stands, if it is found.
@@ -180,7 +179,7 @@ pub(crate) fn put_byte(
     }
     let name = source.name().as_bytes();
     let size = token_size(source.text().get(offset..).unwrap_or(&[]));
-    put_place(alloc, text, name, source.text(), offset, size)
+    source.put_place(alloc, text, name, offset, size)
 }
 
 /// Puts where an octet of this file stands, if the file is a group in octets.

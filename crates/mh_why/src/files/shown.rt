@@ -1,16 +1,20 @@
 //! The files of a service, as places in them are shown: a group in the binary notation as it is
 //! printed.
-ghost use Rattle.std.specs.Prelude.{◌≡◌, Some, IfOk};
+ghost use Rattle.std.specs.Prelude.{◌≡◌, ◌++◌, Some, IfOk, OnOk};
 ghost use Rattle.std.specs.Option.{option_copied};
+ghost use Rattle.mh_why.specs.Places.{shown_place};
 ghost use Rattle.mh_why.specs.Sources.{is_printed, text_of, printed_as, source_of, source_named, or_profile, table_by};
 ghost use Rattle.mh_told.specs.Reading.{table_of};
 
 use crate::files::named_file::NamedFile;
+use crate::place::lines::Lines;
+use crate::place::put_place_by;
 use mh_base::GroupName;
 use mh_codec::{CodecError, TagTable, decode_group};
 use mh_group::Group;
 use mh_text::{Mark, TextError, marks, print_group};
 use mh_told::reading::is_group_file;
+use mh_told::text::Text;
 use mh_told::unplayable::Unplayable;
 use std::alloc::{AllocError, Global};
 use std::marker::Model;
@@ -20,6 +24,8 @@ use std::marker::Model;
 pub(crate) struct Source<'a> {
     name: &'a GroupName,
     text: Vec<u8>,
+    /// Where the lines of the text are.
+    lines: Lines,
     marks: Vec<Mark>,
     /// Whether the file begins as a group in the textual notation.
     is_written: bool,
@@ -30,6 +36,7 @@ pub(crate) struct Source<'a> {
 }
 
 impl<'a> Model for Source<'a> {
+    ghost use Rattle.mh_why.specs.Lines.{IsTable};
     ghost use Rattle.mh_why.specs.Sources.{Source};
 
     ghost Value = { Source };
@@ -43,6 +50,8 @@ impl<'a> Model for Source<'a> {
           is_group = s.is_group;
           is_printed = s.is_printed;
         } };
+
+    ghost invariant = { λ s. IsTable s.text.items s.lines };
 }
 
 impl<'a> Source<'a> {
@@ -55,11 +64,13 @@ impl<'a> Source<'a> {
     {
         let bytes = file.1.as_slice();
         let text = text_of(alloc, tags, bytes)?;
+        let lines = Lines::of_text(alloc, text.as_slice())?;
         let marks = marks(alloc, text.as_slice())?;
         let is_printed = is_printed(text.as_slice(), bytes);
         Ok(Source {
             name: &file.0,
             text,
+            lines,
             marks,
             is_written: mh_text::begins_group(bytes),
             is_group: is_group_file(tags, bytes),
@@ -77,6 +88,28 @@ impl<'a> Source<'a> {
         ensures { result.now ≡ self.now.text }
     {
         self.text.as_slice()
+    }
+
+    /// Puts where so many bytes of the text stand behind so many others, in a file that is called so.
+    pub(crate) fn put_place(
+        &self,
+        alloc: Global,
+        text: &mut Text,
+        name: &[u8],
+        offset: usize,
+        size: usize,
+    ) -> Result<(), AllocError>
+        ensures { OnOk result (text.new ≡ text.old ++ shown_place name.now self.now.text offset size) }
+    {
+        put_place_by(
+            alloc,
+            text,
+            name,
+            self.text.as_slice(),
+            &self.lines,
+            offset,
+            size,
+        )
     }
 
     pub(crate) fn marks(&self) -> &[Mark]

@@ -1,11 +1,12 @@
 //! The part of a line that is shown of a place, behind a gutter with the number of the line, and carets under what is meant.
 //!
 //! A line that is too long is cut between words, where that can be, and a mark tells where.
-ghost use Rattle.std.specs.Prelude.{◌≡◌, ◌≤◌, ◌<◌, ◌+◌, ◌^◌, ◌++◌, OnOk, length};
+ghost use Rattle.std.specs.Prelude.{◌≡◌, ◌≤◌, ◌<◌, ◌+◌, ◌-◌, ◌^◌, ◌++◌, OnOk, length};
 ghost use Rattle.std.specs.List.{flat_map, prefix_len};
 ghost use Rattle.mh_told.specs.Printing.{character};
 ghost use Rattle.mh_why.specs.LineWords.{is_in_word};
-ghost use Rattle.mh_why.specs.Places.{back_mark, caret_line, cut_at, first_shown, front_mark, last_space, mark_width, shown_line, size_shown, window, word_behind};
+ghost use Rattle.mh_why.specs.Lines.{first_by};
+ghost use Rattle.mh_why.specs.Places.{back_mark, caret_line, cut_at, front_mark, last_space, mark_width, shown_line, size_shown, window, word_behind};
 
 use crate::place::put_repeated;
 use mh_terminal::{put_character, put_plain};
@@ -16,25 +17,27 @@ use std::alloc::{AllocError, Global};
 const WIDTH: usize = 70;
 
 /// How many characters of a line are shown before what is meant.
-const MARGIN: usize = 40;
+pub(crate) const MARGIN: usize = 40;
+
+/// How many characters are looked at behind the margin: a word that is left out, and what is shown.
+pub(crate) const LOOKED_AT: usize = 111;
 
 const SPACE: u32 = 32;
 
 /// What tells that a line is cut.
 const CUT: u32 = 0x2026;
 
-/// How many characters are left out in front of what stands in this column.
-#[tactic(auto, unfolding(crate::specs::Places::first_shown))]
+/// How many characters are left out in front of what stands in this column, by those from the margin on.
 pub(crate) fn first_shown(characters: &[u32], column: usize) -> usize
     requires { column < 2 ^ 63 }
-    ensures exact { result ≡ first_shown characters.now column }
+    ensures exact { result ≡ first_by column (prefix_len is_in_word characters.now) }
     ensures within { result ≤ column }
+    ensures from { column - 40 ≤ result }
 {
     if column <= MARGIN {
         return 0;
     }
-    let first = column - MARGIN;
-    word_behind(first, word_length(characters.get(first..).unwrap_or(&[])))
+    word_behind(column - MARGIN, word_length(characters))
 }
 
 /// The word behind the one in which a line would be cut, if it begins before what is meant.
@@ -42,6 +45,7 @@ fn word_behind(first: usize, length: usize) -> usize
     requires { first < 2 ^ 63 }
     ensures exact { result ≡ word_behind first length }
     ensures within { result ≤ first + 40 }
+    ensures from { first ≤ result }
 {
     if length < MARGIN {
         first + length + 1
