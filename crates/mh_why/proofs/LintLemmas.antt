@@ -1,10 +1,9 @@
 -- What the lines on a service say.
-use Rattle.std.specs.Prelude.{◌≡◌, ℕ, List, [], None, Result, Ok, Err, IfOk, refl}
+use Rattle.std.specs.Prelude.{◌≡◌, ℕ, List, [], None, Result, Ok, Err, IfOk}
 use Rattle.std.proofs.Common.{inl, inr, ap, subst, sym, ◌∙◌}
 use Rattle.mh_model.specs.Service.{Service}
 use Rattle.mh_laws.specs.Budget.{Bounds}
 use Rattle.mh_laws.specs.Flow.{Flow}
-use Rattle.mh_flow.specs.Equipment.{equipped}
 use Rattle.mh_flow.specs.Solved.{Solved, flow_in}
 use Rattle.mh_lint.specs.declared.lint.Asked.{Asked}
 use Rattle.mh_lint.specs.Laws.{FindingsNeverHappen}

@@ -48,11 +48,20 @@ fn verified(
     ensures { IfOk result (AreLinesOn asked files.now (Ok service)) }
 {
     match verify(alloc, service, &[]) {
-        Ok(accepted) => Ok(Some(lines_on(alloc, &accepted, files, asked)?)),
-        Err(refusal) => match refusal.kind {
-            RefusalKind::NoMemory => Err(AllocError),
-            _ => Ok(None),
-        },
+        Ok(accepted) => {
+            let lines = lines_on(alloc, &accepted, files, asked);
+            drop(accepted);
+            Ok(Some(lines?))
+        }
+        Err(refusal) => {
+            let wants_memory = matches!(refusal.kind, RefusalKind::NoMemory);
+            drop(refusal);
+            if wants_memory {
+                Err(AllocError)
+            } else {
+                Ok(None)
+            }
+        }
     }
 }
 

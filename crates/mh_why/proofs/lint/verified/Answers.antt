@@ -1,13 +1,12 @@
-use Rattle.std.specs.Prelude.{refl}
-use Rattle.std.proofs.Common.{subst}
-use Rattle.mh_model.specs.Service.{Service}
-use Rattle.mh_why.specs.Lint.{IsLintOf}
+use Rattle.std.proofs.Common.{sym, ◌∙◌}
+use Rattle.std.proofs.lemmas.Bool.{false≢true}
 use Rattle.mh_why.proofs.LintLemmas.{refused_none}
 use Rattle.mh_why.proofs.lint.verified.Goals as goal
+use Rattle.mh_why.proofs.lint.verified.Goals.{in-NoMemory, in_default}
 
-pub returns-in-Ok : goal.returns-in-Ok
-returns-in-Ok c =
-    (c.args.service, refl, subst (λ (v : Service). IsLintOf c.args.asked v c.args.files.now c.in_ok-lines_on-in-Ok.field-0) c.in-Ok.ensures.same c.in_ok-lines_on-in-Ok.ensures)
-
-pub returns : goal.returns
-returns c = refused_none c.args.asked c.args.files.now _ _ c.in-Err.ensures.told c.in_default.not-NoMemory
+pub returns-else-wants_memory : goal.returns-else-wants_memory
+returns-else-wants_memory c =
+    elim c.match-matches.branch [
+      | in-NoMemory w ↦ absurd (false≢true (sym c.if-wants_memory.false ∙ w.matches-is))
+      | in_default w ↦ refused_none c.args.asked c.args.files.now c.args.service c.in-Err.refusal c.in-Err.ensures.told w.in_default.not-NoMemory
+    ]
