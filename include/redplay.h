@@ -174,9 +174,9 @@ uint32_t redplay_scene(redplay *handle, const uint8_t *name, size_t name_length,
 
 /* ---- Steps, and what comes of them -------------------------------------------------------------------------------------- */
 
-/* Makes `most` steps, or as many as there is something to do, and paints once, behind the last of them. Of a service that the
-   verifier accepted, UINT32_MAX always comes to an end, within the budget. Behind REDPLAY_NO_MEMORY some of the steps were
-   made and there is more to do: call it again. */
+/* Makes `most` steps, or as many as there is something to do; what they change is painted where rows or cells are asked for.
+   Of a service that the verifier accepted, UINT32_MAX always comes to an end, within the budget. Behind REDPLAY_NO_MEMORY
+   some of the steps were made and there is more to do: call it again. */
 uint32_t redplay_advance(redplay *handle, uint32_t most);
 
 /* Answers what is left to do: REDPLAY_MORE, REDPLAY_IDLE (post something), REDPLAY_ENDED; or REDPLAY_NO_SESSION. Takes no
