@@ -247,17 +247,21 @@ abbrev pub is_past_the_last : Input → State → Bool
 is_past_the_last (input.Tick n) s = not (nat_le (s.moments.present + time_ahead s.queue + n) most_moment)
 is_past_the_last _ s = false
 
--- why an input is refused, if it is: the first of these
-abbrev pub obstacle : Input → State → Option Obstacle
-obstacle i s =
+-- why an input is refused, if it is: the first of these, where the first argument says whether it is another group than the
+-- service's
+abbrev pub obstacle_if : Bool → Input → State → Option Obstacle
+obstacle_if differs i s =
     if s.ended then Some refused.Ended
     else (if not (is_in_range i) then Some refused.TickRange
     else (if is_not_late i s then Some refused.NotLate
-    else (if is_another_group i s then Some refused.Differs
+    else (if differs then Some refused.Differs
     else (if is_over_size i then Some refused.TooLarge
     else (if is_over_number i s then Some refused.TooMany
     else (if is_past_the_last i s then Some refused.ClockFull
     else (if is_full s then Some refused.QueueFull else None)))))))
+
+abbrev pub obstacle : Input → State → Option Obstacle
+obstacle i s = obstacle_if (is_another_group i s) i s
 
 abbrev pub posted_by : Option Obstacle → Input → State → State
 posted_by None i s = record s { queue = s.queue ++ waiting.Input i ∷ [] }
