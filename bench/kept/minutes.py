@@ -1,10 +1,10 @@
 """Counts what each crate's checks cost while a gate runs: processor minutes, and gigabytes at the height.
 
-    python3 bench/kept/minutes.py FILE          looks at the system's processes every four seconds, until it is stopped
+    python3 bench/kept/minutes.py FILE GATE     looks at the system's processes every four seconds, until it is stopped
     python3 bench/kept/minutes.py FILE --table  prints what FILE has, the dearest crate first
 
-Start it before `rt ci`, with a file that is not there yet. Only checks that `rt ci` runs in its own copy are counted; of a crate
-that was checked several times the last check counts, its tests added. A check counts with the processes that it has waited for.
+Start it before `rt ci`, with a file that is not there yet. Only checks that `rt ci` runs in the checkout GATE, or in the copy
+that some kits make of it, are counted; of a crate that was checked several times the last check counts, its tests added. A check counts with the processes that it has waited for.
 It reads /proc alone, so it may stand beside any run.
 """
 import json
@@ -16,14 +16,15 @@ TICKS = os.sysconf("SC_CLK_TCK")
 PAGE = os.sysconf("SC_PAGE_SIZE")
 
 
-def check_in(process):
+def check_in(process, gate):
     """Returns the key of a check and what it has used so far, or None where the process is no check of a gate."""
     folder = f"/proc/{process}"
     with open(f"{folder}/cmdline", "rb") as line:
         words = line.read().split(b"\0")
     if b"--crate-name" not in words or not words[0].endswith(b"/rattle"):
         return None
-    if "rt-copy" not in os.readlink(f"{folder}/cwd"):
+    works_in = os.readlink(f"{folder}/cwd")
+    if not works_in.startswith(f"{gate}/") and "rt-copy" not in works_in:
         return None
     with open(f"{folder}/stat") as stat:
         fields = stat.read().rsplit(")", 1)[1].split()
@@ -35,11 +36,11 @@ def check_in(process):
     return f"{name} {kind} {fields[19]} {process}", ticks / TICKS / 60, resident * PAGE / 1e9
 
 
-def look(seen):
+def look(seen, gate):
     """Notes of each check that runs now what it has used so far."""
     for process in filter(str.isdigit, os.listdir("/proc")):
         try:
-            found = check_in(process)
+            found = check_in(process, gate)
         except OSError:
             continue  # it has ended meanwhile
         if found:
@@ -78,8 +79,11 @@ def main():
         for name, (minutes, gigabytes) in rows_of(seen):
             print(f"{name:22} {minutes:6.1f} {gigabytes:6.1f}")
         return
+    if len(words) != 1:
+        sys.exit(__doc__)
+    gate = os.path.realpath(words[0])
     while True:
-        look(seen)
+        look(seen, gate)
         keep(path, seen)
         time.sleep(4)
 
