@@ -7,6 +7,8 @@ mod LineLemmas
 mod LaneLemmas
 mod NearLemmas
 mod PaintLemmas
+mod PlaceLemmas
+mod LetterLemmas
 mod RowBitLemmas
 mod RowLemmas
 mod SpoilLemmas

@@ -134,13 +134,3 @@ pub text_in_box : (a b : Area) (ink : Ink) (lines : List Line) (own : Window) (o
 text_in_box a b ink lines own old new same is_own done =
     whole_of (text_paint a ink.background ink.colour lines) (letter_paint ink a lines) a own old new (subst (λ (x : Area). IsOf x own) same is_own)
     (λ c on. rw on refl) (λ c off. rw off refl) done
-
--- the letter of the cell in this row and column
-pub letter_set : (ink : Ink) (a : Area) (lines : List Line) (row column : ℕ) (line : Option Line) (x : ℤ) (old new : ℕ → Marked) → column < 60
-    → line ≡ member_at lines (pos row -ℤ first_row a) → x ≡ pos column -ℤ first_column a
-    → IsSet old new (60 * row + column) (put (record { back = ink.background; mark = marked ink.colour (character_in line x) }) (old (60 * row + column)))
-    → IsSet old new (60 * row + column) (put (letter_paint ink a lines (60 * row + column)) (old (60 * row + column)))
-letter_set ink a lines row column line x old new inside is there set =
-    let mine : character_in line x ≡ character_at lines a (column_of (60 * row + column)) (row_of (60 * row + column)) =
-    λ i. character_in ((is ∙ (λ j. member_at lines (pos (sym (row_of_cell row column inside) j) -ℤ first_row a))) i) ((there ∙ (λ j. pos (sym (column_of_cell row column inside) j) -ℤ first_column a)) i) in
-    subst (λ (m : Option ℕ). IsSet old new (60 * row + column) (put (record { back = ink.background; mark = marked ink.colour m }) (old (60 * row + column)))) mine set

@@ -1,5 +1,6 @@
 pub mod Painting
 pub mod Panels
+pub mod Places
 pub mod Rows
 pub mod Shelf
 pub mod Strokes

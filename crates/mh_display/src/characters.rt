@@ -1,43 +1,73 @@
-//! The characters of a text's lines, cell by cell.
-ghost use Rattle.std.specs.Prelude.{◌≡◌, ◌^◌, Some, pos, option_copied};
-ghost use Rattle.mh_model.specs.Boxes.{IsNear};
-ghost use Rattle.mh_model.specs.Layout.{member_at, character_at, character_in};
+//! The characters of a text's line, one a column of the screen.
+ghost use Rattle.std.specs.Prelude.{◌≡◌, ◌<◌, ◌^◌, ◌-ℤ◌, ℕ, Some, drop, if◌then◌else◌, nat_lt, pos, slice_index};
+ghost use Rattle.std.specs.Option.{option_copied};
+ghost use Rattle.mh_model.specs.Boxes.{IsNear, or_zero};
+ghost use Rattle.mh_model.specs.Layout.{character_in, unless_space};
+ghost use Rattle.mh_model.specs.Scalars.{scalars_of};
+ghost use Rattle.mh_display.specs.Places.{behind_at, scalar_at, scalar_now};
 
-use mh_base::Area;
-use mh_model::Line;
-use mh_model::picture::boxes::{first_column, first_row};
+use mh_layout::{LaidLine, behind_first, first_of};
 
 /// The scalar that paints nothing.
-const SPACE: u32 = 0x20;
+pub(crate) const SPACE: u32 = 0x20;
 
-/// The character that a text with these lines paints in a cell, if it paints one there: its code point.
-/// Columns and rows are counted from the upper left corner of the plane.
-pub fn character_at(lines: &[Line], area: &Area, column: u32, row: u32) -> Option<u32>
-    ensures { result ≡ character_at lines.now area.now (pos column) (pos row) }
+/// What a line shows in each column of the screen, if there is a line: a space where it shows nothing. Its box begins at this
+/// column, on the screen or off it.
+pub(crate) fn characters_of(line: Option<&LaidLine>, first: i64) -> [u32; 60]
+    requires { IsNear (2 ^ 29) first }
+    ensures { (column : ℕ) → column < 60 → unless_space (Some (slice_index result column)) ≡ character_in (option_copied line.entry) (pos column -ℤ first) }
 {
-    let line = line_at(lines, i64::from(row) - first_row(area))?;
-    character_in(line, i64::from(column) - first_column(area))
-}
-
-/// The line in this row of the box.
-pub(crate) fn line_at(lines: &[Line], row: i64) -> Option<&Line>
-    ensures { option_copied result ≡ member_at lines.now row }
-{
-    if row < 0 {
-        return None;
+    let mut shown = [SPACE; 60];
+    if let Some(line) = line {
+        let begin = first + i64::from(line.column());
+        put_characters(&mut shown, line.text(), line.length(), begin);
     }
-    lines.get(row as usize)
+    shown
 }
 
-/// The character of a line in this column of the box.
-pub(crate) fn character_in(line: &Line, column: i64) -> Option<u32>
-    requires { IsNear (2 ^ 33) column }
-    ensures { result ≡ character_in (Some line.now) column }
+/// Puts as many scalars of the text as the line has into their columns, from the one at which it begins on.
+fn put_characters(shown: &mut [u32; 60], text: &[u8], length: usize, begin: i64)
+    requires { IsNear (2 ^ 33) begin }
+    ensures { (column : ℕ) → column < 60 → slice_index shown.new column ≡ scalar_at (pos column -ℤ begin) length (scalars_of text.now) }
 {
-    let place = column - i64::from(line.column);
+    let mut rest = text_from(text, begin);
+    for column in 0..60 {
+        let (scalar, behind) = take_scalar(rest, column as i64 - begin, length);
+        shown[column] = scalar;
+        rest = behind;
+    }
+}
+
+/// The text without the scalars to the left of the screen, where it begins at this column.
+fn text_from(text: &[u8], begin: i64) -> &[u8]
+    requires { IsNear (2 ^ 33) begin }
+    ensures { scalars_of result.now ≡ drop (or_zero (pos 0 -ℤ begin)) (scalars_of text.now) }
+{
+    if begin < 0 {
+        behind_first(text, (-begin) as usize)
+    } else {
+        text
+    }
+}
+
+/// What a line with as many scalars shows at this place, which is the next one of the text, and the text behind it. In front
+/// of the line it shows a space, and nothing is taken.
+fn take_scalar(text: &[u8], place: i64, length: usize) -> (u32, &[u8])
+    ensures scalar { result.0 ≡ scalar_now place length (scalars_of text.now) }
+    ensures rest { scalars_of result.1.now ≡ behind_at place (scalars_of text.now) }
+{
     if place < 0 {
-        return None;
+        return (SPACE, text);
     }
-    let scalar = line.scalars.as_slice().get(place as usize).copied()?;
-    if scalar == SPACE { None } else { Some(scalar) }
+    match first_of(text) {
+        Some((scalar, behind)) => (within(scalar, place as usize, length), behind),
+        None => (SPACE, text),
+    }
+}
+
+/// The scalar, if it is one of the line's; else a space.
+fn within(scalar: u32, place: usize, length: usize) -> u32
+    ensures { result ≡ (if nat_lt place length then scalar else 0x20) }
+{
+    if place < length { scalar } else { SPACE }
 }

@@ -1,7 +1,7 @@
 //! The display: the stack of visibles, and the picture that is kept and painted anew where it has changed.
 //!
-//! Promise: after a repaint the picture is that of `mh_model`'s definitions, cell by cell. How a text's lines
-//! are laid out is left to the store, and when to paint to the machine.
+//! Promise: after a repaint the picture is that of `mh_model`'s definitions, cell by cell. A text's lines
+//! are taken from `mh_layout` while they are painted. When to paint is left to the machine.
 #![tactic(auto)]
 
 mod art;
@@ -22,9 +22,7 @@ mod strokes;
 mod texts;
 mod window;
 
-pub use characters::character_at;
 pub use mh_model::Picture;
-pub use mh_store::{columns_are_covered, lay_out, one_division, rows_are_covered};
 pub use rows::changed_rows;
 pub use screen::Screen;
 pub use stack::Stack;

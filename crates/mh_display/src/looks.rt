@@ -18,56 +18,55 @@ use crate::texts::{Ink, paint_text};
 use crate::window::Window;
 use mh_base::Area;
 use mh_group::{Attribute, Class};
+use mh_layout::Lines;
+use mh_model::Object;
 use mh_model::held::as_colour;
-use mh_model::{Line, Object};
-use mh_store::Lined;
+use mh_store::Boxed;
 use mh_store::looks::{
-    OPAQUE_WHITE, TRANSPARENT_BLACK, area_of, colour_of, fill_of, has_line, line_colour_of,
-    paint_of,
+    OPAQUE_WHITE, TRANSPARENT_BLACK, area_of, colour_of, fill_of, has_line, justification,
+    line_colour_of, paint_of, shown_text, wraps,
 };
 
 /// Paints what was found for a reference, if it is painted at all.
-pub(crate) fn paint_found(screen: &mut Screen, found: Option<&Lined>)
+pub(crate) fn paint_found(screen: &mut Screen, found: Option<&Boxed>)
     ensures { IsPainted (λ c. painted c (option_copied found.entry)) screen.old screen.new }
 {
     if let Some(kept) = found {
-        paint_seen(screen, kept.object(), kept.area(), kept.lines());
+        paint_seen(screen, kept.object(), kept.area());
     }
 }
 
 /// Paints an object, whose box this is, if it is available and runs.
-fn paint_seen(screen: &mut Screen, object: &Object, area: &Area, lines: &[Line])
-    requires area { area.now ≡ spec.area_of object.now }
-    requires lines { lines.now ≡ spec.lines_of object.now }
+fn paint_seen(screen: &mut Screen, object: &Object, area: &Area)
+    requires { area.now ≡ spec.area_of object.now }
     ensures { IsPainted (λ c. painted c (Some object.now)) screen.old screen.new }
 {
     if is_seen(object) {
-        paint_stale(screen, object, area, lines);
+        paint_stale(screen, object, area);
     }
 }
 
 /// Paints an object in whose box, which is this one, a cell is stale.
-fn paint_stale(screen: &mut Screen, object: &Object, area: &Area, lines: &[Line])
-    requires area { area.now ≡ spec.area_of object.now }
-    requires lines { lines.now ≡ spec.lines_of object.now }
+fn paint_stale(screen: &mut Screen, object: &Object, area: &Area)
+    requires { area.now ≡ spec.area_of object.now }
     ensures { IsPainted (paint_in object.now) screen.old screen.new }
 {
     let own = Window::of(&Frame::of(area));
     if screen.is_settled_in(&own) {
         return;
     }
-    paint_object(screen, object, lines);
+    paint_object(screen, object, area);
 }
 
-/// Paints an object, of whose text these are the lines.
-fn paint_object(screen: &mut Screen, object: &Object, lines: &[Line])
-    requires { lines.now ≡ spec.lines_of object.now }
+/// Paints an object, whose box this is.
+fn paint_object(screen: &mut Screen, object: &Object, area: &Area)
+    requires { area.now ≡ spec.area_of object.now }
     ensures { IsPainted (paint_in object.now) screen.old screen.new }
 {
     match object.fixed.get().class {
         Class::Rectangle => paint_rectangle(screen, object),
         Class::DynamicLineArt => paint_drawn(screen, object),
-        _ => paint_letters(screen, object, lines),
+        _ => paint_letters(screen, object, area),
     }
 }
 
@@ -115,14 +114,27 @@ fn ground_of(object: &Object) -> Option<u32>
     ))
 }
 
-fn paint_letters(screen: &mut Screen, object: &Object, lines: &[Line])
+/// Paints the text of an object, whose box this is.
+fn paint_letters(screen: &mut Screen, object: &Object, area: &Area)
+    requires { area.now ≡ spec.area_of object.now }
     ensures { let o = object.now in
         let background = spec.colour_of attribute.BackgroundColour spec.transparent_black o in
         let colour = spec.colour_of attribute.TextColour spec.opaque_white o in
-        IsPainted (text_paint (spec.area_of o) background colour lines.now) screen.old screen.new }
+        IsPainted (text_paint (spec.area_of o) background colour (spec.lines_of o)) screen.old screen.new }
 {
-    let area = area_of(object);
-    paint_text(screen, &area, ink_of(object), lines);
+    let mut lines = lines_of(object, area);
+    paint_text(screen, area, ink_of(object), &mut lines);
+}
+
+/// The lines of the object's text; none where it shows no text.
+fn lines_of<'a>(object: &'a Object, area: &Area) -> Lines<'a>
+    requires { area.now ≡ spec.area_of object.now }
+    ensures { result ≡ spec.lines_of object.now }
+{
+    match shown_text(object) {
+        Some(text) => Lines::of(text, area, wraps(object), justification(object)),
+        None => Lines::none(),
+    }
 }
 
 fn ink_of(object: &Object) -> Ink

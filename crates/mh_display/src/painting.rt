@@ -42,7 +42,7 @@ fn paint_down(screen: &mut Screen, objects: &Objects, stack: &[ObjRef])
             return;
         }
         left -= 1;
-        paint_found(screen, objects.lined(&stack[left]));
+        paint_found(screen, objects.boxed(&stack[left]));
     }
 }
 

@@ -1,6 +1,5 @@
 pub mod Table
 pub mod Trying
-pub mod Laws
 pub mod Keeping
 pub mod Bringing
 pub mod Placing

@@ -6,7 +6,7 @@ ghost use Rattle.indexmap.specs.IndexMap.{set_value_at};
 ghost use Rattle.mh_store.specs.Bringing.{found_ready, entries_put};
 
 use crate::ready::Ready;
-use crate::{Awaits, Lined};
+use crate::{Awaits, Boxed};
 use indexmap::IndexMap;
 use mh_base::Octets;
 use std::alloc::{AllocError, Global};
@@ -16,7 +16,7 @@ pub(crate) fn add_ready<A: Awaits>(
     alloc: Global,
     ready: &mut Vec<Ready>,
     place: usize,
-    found: Option<&Lined>,
+    found: Option<&Boxed>,
     awaiting: &A,
     text: &Octets,
 ) -> Result<(), AllocError>
@@ -35,7 +35,7 @@ pub(crate) fn add_ready<A: Awaits>(
 }
 
 /// Puts these at their places, one after another. It takes no memory.
-pub(crate) fn put_all(table: &mut IndexMap<u32, Lined>, ready: Vec<Ready>)
+pub(crate) fn put_all(table: &mut IndexMap<u32, Boxed>, ready: Vec<Ready>)
     ensures { table.new.entries ≡ entries_put ready.items table.old.entries }
 {
     for one in ready {
@@ -43,16 +43,16 @@ pub(crate) fn put_all(table: &mut IndexMap<u32, Lined>, ready: Vec<Ready>)
     }
 }
 
-fn put_one(table: &mut IndexMap<u32, Lined>, one: Ready)
+fn put_one(table: &mut IndexMap<u32, Boxed>, one: Ready)
     ensures { table.new.entries ≡ set_value_at table.old.entries one.place one.kept }
 {
     let Ready { place, kept } = one;
     if let Some(there) = table.get_index_mut(place) {
-        put_lined(there, kept);
+        put_boxed(there, kept);
     }
 }
 
-pub(crate) fn put_lined(place: &mut Lined, kept: Lined)
+pub(crate) fn put_boxed(place: &mut Boxed, kept: Boxed)
     ensures { place.new ≡ kept }
 {
     *place = kept;

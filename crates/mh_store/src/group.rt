@@ -14,8 +14,8 @@ ghost use Rattle.mh_store.specs.Table.{changed_at, entry_of, is_new, IsPlace};
 ghost use Rattle.mh_store.specs.Trying.{left_over, edited_in, given_in};
 
 use crate::Awaits;
-use crate::bringing::{add_ready, put_all, put_lined};
-use crate::lined::Lined;
+use crate::boxed::Boxed;
+use crate::bringing::{add_ready, put_all, put_boxed};
 use crate::ready::Ready;
 use indexmap::IndexMap;
 use mh_base::{GroupName, ObjRef, Octets, Value};
@@ -30,7 +30,7 @@ pub struct Group {
     alloc: Global,
     name: GroupName,
     /// Each object stands under its own number.
-    table: IndexMap<u32, Lined>,
+    table: IndexMap<u32, Boxed>,
 }
 
 impl Model for Group {
@@ -57,8 +57,8 @@ impl Group {
         Ok(Group { alloc, name, table })
     }
 
-    /// The object to which the reference leads, with its lines, if it is here.
-    pub(crate) fn lined(&self, at: &ObjRef) -> Option<&Lined>
+    /// The object to which the reference leads, with its box, if it is here.
+    pub(crate) fn boxed(&self, at: &ObjRef) -> Option<&Boxed>
         ensures { option_copied result ≡ object_at at.now self.now }
     {
         if at.group != self.name {
@@ -71,14 +71,14 @@ impl Group {
     pub(crate) fn at(&self, place: usize) -> Option<&Object>
         ensures { option_copied result ≡ slice_get self.now place }
     {
-        match self.lined_at(place) {
+        match self.boxed_at(place) {
             Some(kept) => Some(kept.object()),
             None => None,
         }
     }
 
-    /// The object at this place, with its lines.
-    fn lined_at(&self, place: usize) -> Option<&Lined>
+    /// The object at this place, with its box.
+    fn boxed_at(&self, place: usize) -> Option<&Boxed>
         ensures { option_copied result ≡ slice_get self.now place }
     {
         match self.table.get_index(place) {
@@ -116,7 +116,7 @@ impl Group {
         if at.group != self.name {
             return Ok(Some(edit));
         }
-        edit_under(self.alloc, &mut self.table, at.number, edit)
+        edit_under(&mut self.table, at.number, edit)
     }
 
     /// The objects to which a text is brought, with it, and with their places.
@@ -130,7 +130,7 @@ impl Group {
     {
         let mut ready = Vec::new(self.alloc);
         for place in 0..self.len() {
-            let found = self.lined_at(place);
+            let found = self.boxed_at(place);
             add_ready(self.alloc, &mut ready, place, found, awaiting, text)?;
         }
         Ok(ready)
@@ -145,7 +145,7 @@ impl Group {
     }
 
     /// Puts this where the object with its reference is. Where there is none it comes back.
-    pub(crate) fn renew(&mut self, kept: Lined) -> Option<Lined>
+    pub(crate) fn renew(&mut self, kept: Boxed) -> Option<Boxed>
         ensures done { self.new ≡ renewed_in kept self.old }
         ensures back { result ≡ left_over kept (object_at kept.fixed.key self.old) }
     {
@@ -170,7 +170,7 @@ impl Group {
 
 /// Where the object under this number stands, if the objects behind the group itself are numbered one by one
 /// from that of the first of them on, as a file mostly does. It is a guess: who asks looks whether it is right.
-fn likely_place(table: &IndexMap<u32, Lined>, at: u32) -> usize {
+fn likely_place(table: &IndexMap<u32, Boxed>, at: u32) -> usize {
     match table.get_index(1) {
         Some((first, _)) if *first <= at => (at - *first) as usize + 1,
         _ => 0,
@@ -178,7 +178,7 @@ fn likely_place(table: &IndexMap<u32, Lined>, at: u32) -> usize {
 }
 
 /// The object under this number. Where it stands at its likely place nothing is hashed.
-fn find(table: &IndexMap<u32, Lined>, at: u32) -> Option<&Lined>
+fn find(table: &IndexMap<u32, Boxed>, at: u32) -> Option<&Boxed>
     ensures { option_copied result ≡ lookup (nat_eq at) table.now.entries }
 {
     match table.get_index(likely_place(table, at)) {
@@ -189,14 +189,14 @@ fn find(table: &IndexMap<u32, Lined>, at: u32) -> Option<&Lined>
 
 /// The same by the table alone. It stands aside, so that the way that is mostly gone needs few registers.
 #[inline(never)]
-fn find_by_hash(table: &IndexMap<u32, Lined>, at: u32) -> Option<&Lined>
+fn find_by_hash(table: &IndexMap<u32, Boxed>, at: u32) -> Option<&Boxed>
     ensures { option_copied result ≡ lookup (nat_eq at) table.now.entries }
 {
     table.get(&at)
 }
 
 /// Where the object under this number stands, looked for as above; behind all where there is none.
-fn place_of(table: &IndexMap<u32, Lined>, at: u32) -> usize
+fn place_of(table: &IndexMap<u32, Boxed>, at: u32) -> usize
     ensures { IsPlace at table.now.entries result }
 {
     let _ = table.len();
@@ -209,7 +209,7 @@ fn place_of(table: &IndexMap<u32, Lined>, at: u32) -> usize
 
 /// The same by the table alone.
 #[inline(never)]
-fn place_by_hash(table: &IndexMap<u32, Lined>, at: u32) -> usize
+fn place_by_hash(table: &IndexMap<u32, Boxed>, at: u32) -> usize
     ensures { IsPlace at table.now.entries result }
 {
     let behind = table.len();
@@ -219,8 +219,7 @@ fn place_by_hash(table: &IndexMap<u32, Lined>, at: u32) -> usize
 /// Changes the body of the object under this number. Where there is none the change comes back.
 #[inline(always)]
 fn edit_under(
-    alloc: Global,
-    table: &mut IndexMap<u32, Lined>,
+    table: &mut IndexMap<u32, Boxed>,
     at: u32,
     edit: Edit,
 ) -> Result<Option<Edit>, AllocError>
@@ -231,7 +230,7 @@ fn edit_under(
     let place = place_of(table, at);
     match table.get_index_mut(place) {
         Some(kept) => {
-            kept.edit(alloc, edit)?;
+            kept.edit(edit)?;
             Ok(None)
         }
         None => Ok(Some(edit)),
@@ -240,7 +239,7 @@ fn edit_under(
 
 /// Gives the variable under this number a value. Where there is none the value comes back.
 #[inline(always)]
-fn give_under(table: &mut IndexMap<u32, Lined>, at: u32, value: Value) -> Option<Value>
+fn give_under(table: &mut IndexMap<u32, Boxed>, at: u32, value: Value) -> Option<Value>
     ensures done { table.new.entries ≡ changed_at (λ _ b. given value b) at table.old.entries }
     ensures back { result ≡ left_over value (lookup (nat_eq at) table.old.entries) }
 {
@@ -255,14 +254,14 @@ fn give_under(table: &mut IndexMap<u32, Lined>, at: u32, value: Value) -> Option
 }
 
 /// Puts this where the object under this number is. Where there is none it comes back.
-fn renew_under(table: &mut IndexMap<u32, Lined>, at: u32, kept: Lined) -> Option<Lined>
+fn renew_under(table: &mut IndexMap<u32, Boxed>, at: u32, kept: Boxed) -> Option<Boxed>
     ensures done { table.new.entries ≡ set_value (nat_eq at) table.old.entries kept }
     ensures back { result ≡ left_over kept (lookup (nat_eq at) table.old.entries) }
 {
     let place = place_of(table, at);
     match table.get_index_mut(place) {
         Some(there) => {
-            put_lined(there, kept);
+            put_boxed(there, kept);
             None
         }
         None => Some(kept),
@@ -274,7 +273,7 @@ fn entered(
     alloc: Global,
     name: &GroupName,
     parts: &[FixedPart],
-) -> Result<IndexMap<u32, Lined>, AllocError>
+) -> Result<IndexMap<u32, Boxed>, AllocError>
     requires apart { are_apart parts.now ≡ true }
     requires own { list_all (is_in name.now) parts.now ≡ true }
     ensures { IfOk result (λ table. table.entries ≡ map entry_of parts.now) }
@@ -287,12 +286,12 @@ fn entered(
 }
 
 /// Puts the object of the part at the end.
-fn add(alloc: Global, table: &mut IndexMap<u32, Lined>, part: &FixedPart) -> Result<(), AllocError>
+fn add(alloc: Global, table: &mut IndexMap<u32, Boxed>, part: &FixedPart) -> Result<(), AllocError>
     requires { is_new part.now.key.number table.old.entries ≡ true }
     ensures { OnOk result (table.new.entries ≡ table.old.entries ++ entry_of part.now ∷ []) }
 {
     let number = part.get().key.number;
-    let object = Lined::fresh(alloc, part)?;
+    let object = Boxed::fresh(alloc, part)?;
     table.insert(number, object)?;
     Ok(())
 }

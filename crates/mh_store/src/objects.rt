@@ -16,7 +16,7 @@ use crate::ready::Ready;
 use crate::trying::{
     edit_application_first, edit_scene_first, give_application_first, give_scene_first,
 };
-use crate::{Awaits, Group, Lined};
+use crate::{Awaits, Boxed, Group};
 use mh_base::{ObjRef, Octets, Value};
 use mh_group::Position;
 use mh_model::{Edit, Object};
@@ -61,24 +61,24 @@ impl Objects {
     pub fn get(&self, at: &ObjRef) -> Option<&Object>
         ensures { option_copied result ≡ object_at at.now (all self.now) }
     {
-        match self.lined(at) {
+        match self.boxed(at) {
             Some(kept) => Some(kept.object()),
             None => None,
         }
     }
 
-    /// The object to which the reference leads, with its lines, if it is present.
-    pub fn lined(&self, at: &ObjRef) -> Option<&Lined>
+    /// The object to which the reference leads, with its box, if it is present.
+    pub fn boxed(&self, at: &ObjRef) -> Option<&Boxed>
         ensures { option_copied result ≡ object_at at.now (all self.now) }
     {
         if self.apart
-            && let Some(kept) = lined_in(&self.scene, at)
+            && let Some(kept) = boxed_in(&self.scene, at)
         {
             return Some(kept);
         }
-        match self.application.lined(at) {
+        match self.application.boxed(at) {
             Some(kept) => Some(kept),
-            None => lined_in(&self.scene, at),
+            None => boxed_in(&self.scene, at),
         }
     }
 
@@ -168,7 +168,7 @@ impl Objects {
     }
 
     /// Puts this where the object with its reference is; where there is none, nothing. It takes no memory.
-    pub(crate) fn renew(&mut self, kept: Lined)
+    pub(crate) fn renew(&mut self, kept: Boxed)
         ensures { self.new ≡ renewed kept self.old }
     {
         if let Some(kept) = self.application.renew(kept) {
@@ -196,11 +196,11 @@ impl Objects {
 }
 
 /// The object of the scene, if there is one, to which the reference leads.
-fn lined_in<'a>(scene: &'a Option<Group>, at: &ObjRef) -> Option<&'a Lined>
+fn boxed_in<'a>(scene: &'a Option<Group>, at: &ObjRef) -> Option<&'a Boxed>
     ensures { option_copied result ≡ object_at at.now (of_scene scene.now) }
 {
     match scene {
-        Some(group) => group.lined(at),
+        Some(group) => group.boxed(at),
         None => None,
     }
 }
@@ -253,7 +253,7 @@ fn put_in(scene: &mut Option<Group>, ready: Vec<Ready>)
 }
 
 /// Puts this where the scene's object with its reference is.
-fn renew_in(scene: &mut Option<Group>, kept: Lined)
+fn renew_in(scene: &mut Option<Group>, kept: Boxed)
     ensures { of_scene scene.new ≡ renewed_in kept (of_scene scene.old) }
 {
     match scene {

@@ -5,7 +5,7 @@ ghost use Rattle.std.specs.Prelude.{◌≡◌, ◌++◌, IfOk, OnOk};
 ghost use Rattle.std.specs.Option.{option_copied};
 ghost use Rattle.mh_store.specs.Placing.{found_placed, ready_placed, all_renewed};
 
-use crate::{Lined, Objects};
+use crate::{Boxed, Objects};
 use mh_base::ObjRef;
 use mh_group::Position;
 use std::alloc::{AllocError, Global};
@@ -15,12 +15,12 @@ pub(crate) fn ready_placed(
     alloc: Global,
     objects: &Objects,
     placed: &[(ObjRef, Position)],
-) -> Result<Vec<Lined>, AllocError>
+) -> Result<Vec<Boxed>, AllocError>
     ensures { IfOk result (λ ready. ready.items ≡ ready_placed placed.now objects.now) }
 {
     let mut ready = Vec::new(alloc);
     for one in placed {
-        add_placed(alloc, &mut ready, objects.lined(&one.0), one.1)?;
+        add_placed(alloc, &mut ready, objects.boxed(&one.0), one.1)?;
     }
     Ok(ready)
 }
@@ -28,8 +28,8 @@ pub(crate) fn ready_placed(
 /// Adds the object, placed here, if there is one and it is a visible.
 fn add_placed(
     alloc: Global,
-    ready: &mut Vec<Lined>,
-    found: Option<&Lined>,
+    ready: &mut Vec<Boxed>,
+    found: Option<&Boxed>,
     position: Position,
 ) -> Result<(), AllocError>
     ensures { OnOk result (ready.new.items
@@ -46,7 +46,7 @@ fn add_placed(
 }
 
 /// Puts these where those with their references are, one after another. It takes no memory.
-pub(crate) fn renew_all(objects: &mut Objects, ready: Vec<Lined>)
+pub(crate) fn renew_all(objects: &mut Objects, ready: Vec<Boxed>)
     ensures { objects.new ≡ all_renewed ready.items objects.old }
 {
     for kept in ready {

@@ -1,9 +1,9 @@
 //! `Ready`: an object that is about to be put at its place.
-use crate::Lined;
+use crate::Boxed;
 
-/// An object with its lines, and the place in its group at which it is to be put.
+/// An object with its box, and the place in its group at which it is to be put.
 #[derive(Drop)]
 pub struct Ready {
     pub place: usize,
-    pub kept: Lined,
+    pub kept: Boxed,
 }

@@ -6,7 +6,7 @@ use Rattle.mh_store.proofs.group.renew_under.Goals as goal
 
 pub returns-in-Some-clause-done : goal.returns-in-Some-clause-done
 returns-in-Some-clause-done c =
-    rw c.put_lined.ensures (put_place c.args.at c.place_of-place.result c.args.table.now.entries c.args.kept c.place_of-place.ensures)
+    rw c.put_boxed.ensures (put_place c.args.at c.place_of-place.result c.args.table.now.entries c.args.kept c.place_of-place.ensures)
 
 pub returns-in-Some-clause-back : goal.returns-in-Some-clause-back
 returns-in-Some-clause-back c = ap (left_over c.args.kept) (found_at c.args.at c.place_of-place.result c.args.table.now.entries _ c.place_of-place.ensures c.in-Some.ensures.value)

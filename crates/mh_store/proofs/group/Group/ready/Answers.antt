@@ -10,7 +10,7 @@ loop-place-init g c =
 
 pub loop-place-preserved : goal.loop-place-preserved
 loop-place-preserved g c =
-    ready_more c.loop-place.place (g.A.Awaits.is c.args.awaiting.now) c.args.text.now c.args.self.now _ c.loop-place.ready.items c.add_ready.new.ready.items _ c.lined_at-found.ensures c.in_ok-add_ready.ensures c.loop-place.invariant
+    ready_more c.loop-place.place (g.A.Awaits.is c.args.awaiting.now) c.args.text.now c.args.self.now _ c.loop-place.ready.items c.add_ready.new.ready.items _ c.boxed_at-found.ensures c.in_ok-add_ready.ensures c.loop-place.invariant
 
 pub returns : goal.returns
 returns g c = ready_done c.loop-place.place (g.A.Awaits.is c.args.awaiting.now) c.args.text.now c.args.self.now c.loop-place.ready.items _ (search rules) c.loop-place.invariant

@@ -1,6 +1,6 @@
 use Rattle.std.proofs.Common.{sym, ◌∙◌}
 use Rattle.mh_store.proofs.BoxKeptLemmas.{box_tried}
-use Rattle.mh_store.proofs.lined.edit_in_place.Goals as goal
+use Rattle.mh_store.proofs.boxed.edit_in_place.Goals as goal
 
 pub returns-then-leaves_box-clause-there : goal.returns-then-leaves_box-clause-there
 returns-then-leaves_box-clause-there c =

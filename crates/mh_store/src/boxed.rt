@@ -1,63 +1,62 @@
-//! `Lined`: an object with the lines of its text.
+//! `Boxed`: an object with its box.
 ghost use Rattle.std.specs.Prelude.{◌≡◌, true, IfOk, OnOk, OnErr};
 ghost use Rattle.std.specs.Str.{bytes_eq};
 ghost use Rattle.mh_group.specs.Table.{is_visible};
 ghost use Rattle.mh_model.specs.Bodies.{given};
 ghost use Rattle.mh_model.specs.Edits.{edited};
-ghost use Rattle.mh_model.specs.Looks.{area_of as area_of_lem, lines_of as lines_of_lem};
+ghost use Rattle.mh_model.specs.Looks.{area_of as area_of_lem};
 ghost use Rattle.mh_model.specs.Service.{fresh};
 ghost use Rattle.mh_store.specs.Bringing.{with_brought};
 ghost use Rattle.mh_store.specs.Placing.{with_place};
 ghost use Rattle.mh_store.specs.Table.{with_body};
 
-use crate::keeping::{are_same_lines, leaves_box, leaves_lines, lines_for};
+use crate::keeping::leaves_box;
 use crate::looks::area_of;
-use mh_base::{Area, GroupName, Octets, Seq, Value, both};
+use mh_base::{Area, GroupName, Octets, Value, both};
 use mh_group::{Attribute, Position};
-use mh_model::{Edit, FixedPart, Held, Line, Object};
+use mh_model::{Edit, FixedPart, Held, Object};
 use std::alloc::{AllocError, Global};
 use std::marker::Model;
 
-/// An object with the lines of its text, laid out. A contract sees the object.
+/// An object with its box, which is read off its attributes where it can change alone. A contract sees the object.
 #[derive(Drop)]
-pub struct Lined {
+pub struct Boxed {
     object: Object,
-    lines: Seq<Line>,
-    /// Its box.
     area: Area,
 }
 
-impl Model for Lined {
+impl Model for Boxed {
     ghost use Rattle.std.specs.Prelude.{◌≡◌};
     ghost use Rattle.mh_model.specs.declared.object.Object.{Object};
-    ghost use Rattle.mh_model.specs.Looks.{area_of, lines_of};
+    ghost use Rattle.mh_model.specs.Looks.{area_of};
 
     ghost Value = { Object };
 
     ghost view = { λ k. k.object };
 
-    ghost invariant = { λ k. (k.lines ≡ lines_of k.object) × (k.area ≡ area_of k.object) };
+    ghost invariant = { λ k. k.area ≡ area_of k.object };
 }
 
-impl Lined {
-    /// The object as it is when its group is entered. Where it shows no text its lines take no memory.
-    pub(crate) fn fresh(alloc: Global, part: &FixedPart) -> Result<Lined, AllocError>
+impl Boxed {
+    /// The object, with its box.
+    fn of(object: Object) -> Boxed
+        ensures { result ≡ object }
+    {
+        let area = area_of(&object);
+        Boxed { object, area }
+    }
+
+    /// The object as it is when its group is entered.
+    pub(crate) fn fresh(alloc: Global, part: &FixedPart) -> Result<Boxed, AllocError>
         ensures { IfOk result (λ kept. kept ≡ fresh part.now) }
     {
-        laid_out(alloc, Object::fresh(alloc, part)?)
+        Ok(Boxed::of(Object::fresh(alloc, part)?))
     }
 
     pub fn object(&self) -> &Object
         ensures { result.now ≡ self.now }
     {
         &self.object
-    }
-
-    /// The lines of the text that is shown, the upper ones first; none where none is.
-    pub fn lines(&self) -> &[Line]
-        ensures { result.now ≡ lines_of_lem self.now }
-    {
-        self.lines.as_slice()
     }
 
     /// Its box.
@@ -75,11 +74,11 @@ impl Lined {
         self.object.body.give(value);
     }
 
-    /// A copy of it with this text, laid out.
-    pub(crate) fn with_text(&self, alloc: Global, text: &Octets) -> Result<Lined, AllocError>
+    /// A copy of it with this text.
+    pub(crate) fn with_text(&self, alloc: Global, text: &Octets) -> Result<Boxed, AllocError>
         ensures { IfOk result (λ kept. kept ≡ with_brought text.now self.now) }
     {
-        laid_out(alloc, brought_copy(alloc, &self.object, text)?)
+        Ok(Boxed::of(brought_copy(alloc, &self.object, text)?))
     }
 
     /// The number of its reference.
@@ -102,32 +101,22 @@ impl Lined {
         self.object.fixed.get().class.is_visible()
     }
 
-    /// A copy of a visible that is placed here, laid out.
-    pub(crate) fn placed(&self, alloc: Global, position: Position) -> Result<Lined, AllocError>
+    /// A copy of a visible that is placed here.
+    pub(crate) fn placed(&self, alloc: Global, position: Position) -> Result<Boxed, AllocError>
         ensures { IfOk result (λ kept. is_visible self.now.fixed.class ≡ true
             → kept ≡ with_place position self.now) }
     {
         let edit = Edit::Put(Attribute::OrigPosition, Held::Pair(position.x, position.y));
-        laid_out(alloc, edited_copy(alloc, &self.object, edit)?)
+        Ok(Boxed::of(edited_copy(alloc, &self.object, edit)?))
     }
 
-    /// Changes the body of the object, and lays its text out anew where its lines can differ.
+    /// Changes the body of the object, and its box where that can move.
     #[inline(always)]
-    pub(crate) fn edit(&mut self, alloc: Global, edit: Edit) -> Result<(), AllocError>
+    pub(crate) fn edit(&mut self, edit: Edit) -> Result<(), AllocError>
         ensures done { OnOk result (self.new ≡ with_body (edited edit) self.old) }
         ensures kept { OnErr result (self.new ≡ self.old) }
     {
-        if leaves_lines(&edit, &self.object) {
-            return edit_in_place(&mut self.object, &mut self.area, edit);
-        }
-        let after = edited_copy(alloc, &self.object, edit)?;
-        if !are_same_lines(&self.object, &after) {
-            let lines = lines_for(alloc, &after)?;
-            put_lines(&mut self.lines, lines);
-        }
-        self.area = area_of(&after);
-        put_object(&mut self.object, after);
-        Ok(())
+        edit_in_place(&mut self.object, &mut self.area, edit)
     }
 }
 
@@ -156,19 +145,6 @@ fn edit_object(object: &mut Object, edit: Edit) -> Result<(), AllocError>
     object.body.edit(object.fixed.get(), edit)
 }
 
-/// The object with its text laid out.
-fn laid_out(alloc: Global, object: Object) -> Result<Lined, AllocError>
-    ensures { IfOk result (λ kept. kept ≡ object) }
-{
-    let lines = lines_for(alloc, &object)?;
-    let area = area_of(&object);
-    Ok(Lined {
-        object,
-        lines,
-        area,
-    })
-}
-
 /// A copy of the object. What never changes is shared with it.
 fn copied(alloc: Global, object: &Object) -> Result<Object, AllocError>
     ensures { IfOk result (λ copy. copy ≡ object.now) }
@@ -192,16 +168,4 @@ fn brought_copy(alloc: Global, object: &Object, text: &Octets) -> Result<Object,
     let (mut copy, text) = both(copied(alloc, object), text.clone())?;
     copy.body.bring(text);
     Ok(copy)
-}
-
-fn put_lines(place: &mut Seq<Line>, lines: Seq<Line>)
-    ensures { place.new ≡ lines }
-{
-    *place = lines;
-}
-
-fn put_object(place: &mut Object, object: Object)
-    ensures { place.new ≡ object }
-{
-    *place = object;
 }

@@ -1,7 +1,7 @@
 use Rattle.std.proofs.Common.{◌∙◌}
 use Rattle.std.specs.Str.{bytes_eq}
 use Rattle.mh_store.proofs.TableLemmas.{is_other, is_own, lookup-object_at, object_at-elsewhere}
-use Rattle.mh_store.proofs.group.Group.lined.Goals as goal
+use Rattle.mh_store.proofs.group.Group.boxed.Goals as goal
 
 pub returns-then-ne : goal.returns-then-ne
 returns-then-ne c =
