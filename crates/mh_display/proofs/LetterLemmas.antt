@@ -1,5 +1,5 @@
 -- The characters of a text, row by row.
-use Rattle.std.specs.Prelude.{◌≡◌, ℕ, ◌+◌, ◌*◌, ◌/◌, ◌%◌, ◌<◌, ◌≤◌, List, Option, Some, None, slice_index, ℤ, pos, ◌-ℤ◌, refl}
+use Rattle.std.specs.Prelude.{◌≡◌, ℕ, ◌+◌, ◌*◌, ◌/◌, ◌%◌, ◌<◌, ◌≤◌, List, Option, Some, slice_index, ℤ, pos, ◌-ℤ◌}
 use Rattle.std.proofs.Common.{ap, ◌∙◌, sym, subst, arith}
 use Rattle.mh_base.specs.declared.area.Area.{Area}
 use Rattle.mh_model.specs.declared.picture.line.Line.{Line}

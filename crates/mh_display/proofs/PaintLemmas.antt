@@ -1,5 +1,5 @@
 -- What is painted into cells, and into those of windows.
-use Rattle.std.specs.Prelude.{◌≡◌, ◌≢◌, ℕ, ◌+◌, ◌*◌, ◌<◌, Bool, true, false, not, List, [], ◌∷◌, ◌&&◌, ◌||◌, if◌then◌else◌, Option, Some, None, ℤ, pos, negsuc, ◌-ℤ◌, refl}
+use Rattle.std.specs.Prelude.{◌≡◌, ◌≢◌, ℕ, ◌<◌, Bool, true, false, not, List, [], ◌∷◌, ◌&&◌, ◌||◌, if◌then◌else◌, Option, Some, None, ℤ, pos, negsuc, ◌-ℤ◌, refl}
 use Rattle.std.specs.Option.{is_some}
 use Rattle.std.proofs.Common.{ap, ◌∙◌, sym, arith, subst}
 use Rattle.std.proofs.lemmas.List.{get_or-set_same, get_or-set_other}
@@ -22,7 +22,7 @@ use Rattle.mh_display.specs.Surface.{Surface, is_in}
 use Rattle.mh_display.specs.Texts.{letter_paint}
 use Rattle.mh_display.specs.Texts.{is_clear as text_is_clear}
 use Rattle.mh_display.specs.Windows.{has, IsOf, IsMeet}
-use Rattle.mh_display.proofs.CellLemmas.{put_nothing, row_of_cell, column_of_cell}
+use Rattle.mh_display.proofs.CellLemmas.{put_nothing}
 
 -- a cell that is put is there, and the others stay
 pub is_set : (s : Surface) (p : Planes) (m n : List ℕ) (at : ℕ) (k : Marked) → IsComplete s → at < 2160 → p ≡ with_cell s.planes at k.cell

@@ -1,8 +1,9 @@
 -- Lists that are gone through place by place.
-use Rattle.std.specs.Prelude.{◌≡◌, ℕ, zero, suc, ◌+◌, ◌<◌, Bool, true, false, if◌then◌else◌, nat_lt, List, [], ◌∷◌, drop, take, Option, Some, None, slice_get, ℤ, pos, negsuc, ◌+ℤ◌, ◌-ℤ◌, refl}
-use Rattle.std.proofs.Common.{ap, ◌∙◌, sym, subst, arith, add-one}
-use Rattle.std.proofs.lemmas.Bool.Decides.{nat_tests}
+use Rattle.std.specs.Prelude.{◌≡◌, ℕ, zero, suc, ◌+◌, ◌<◌, Bool, true, false, if◌then◌else◌, nat_lt, List, [], ◌∷◌, drop, take, Option, Some, None, length, replicate, slice_get, slice_index, slice_set, ℤ, pos, negsuc, ◌+ℤ◌, ◌-ℤ◌, refl}
+use Rattle.std.proofs.Common.{ap, ◌∙◌, sym, arith, inl, inr}
+use Rattle.std.proofs.lemmas.Bool.Decides.{eqb_tells, nat_tests}
 use Rattle.std.proofs.lemmas.Int.{ints}
+use Rattle.std.proofs.lemmas.List.{get_or-replicate, get_or-set_other, get_or-set_same}
 use Rattle.mh_model.specs.declared.picture.line.Line.{Line}
 use Rattle.mh_model.specs.Boxes.{or_zero}
 use Rattle.mh_model.specs.Layout.{character_in, member_at, unless_space}
@@ -83,4 +84,16 @@ shows column first begin length scalar line xs starts own is =
     ∙ ap (λ (z : ℤ). unless_space (member_at line.scalars z)) place
   where
     apart : (c l : ℕ) (f : ℤ) → pos c -ℤ (f +ℤ pos l) ≡ (pos c -ℤ f) -ℤ pos l
-    apart c l f = grind (arith, ints)
+    apart c l f = omega (arith, ints)
+
+-- one more column
+pub one_put : (f : ℕ → ℕ) (xs : List ℕ) (n x : ℕ) → n < length xs → x ≡ f n → ((k : ℕ) → k < n → slice_index xs k ≡ f k) → (k : ℕ) → k < n + 1 → slice_index (slice_set xs n x) k ≡ f k
+one_put f xs n x inside here before k below = elim (eqb_tells k n) [
+  | inl h ↦ ap (slice_index (slice_set xs n x)) h.1 ∙ get_or-set_same xs n x 0 inside ∙ here ∙ ap f (sym h.1)
+  | inr h ↦ get_or-set_other xs n k x 0 h.1 ∙ before k (omega (arith, below, h.1))
+]
+
+-- a row of spaces
+pub all_blank : (xs : List ℕ) → xs ≡ replicate 60 0x20 → (column : ℕ) → column < 60 → unless_space (Some (slice_index xs column)) ≡ None
+all_blank xs is column inside =
+    ap (λ (x : ℕ). unless_space (Some x)) (ap (λ (l : List ℕ). slice_index l column) is ∙ get_or-replicate {A = ℕ} 60 column 0x20 0 inside)

@@ -1,5 +1,5 @@
 -- Lists that are gone through place by place. A place is counted from the first member, and may lie in front of it.
-use Rattle.std.specs.Prelude.{ℕ, Bool, if◌then◌else◌, nat_lt, List, [], ◌∷◌, drop, Option, None, slice_get, ℤ, pos, negsuc}
+use Rattle.std.specs.Prelude.{ℕ, if◌then◌else◌, nat_lt, List, [], ◌∷◌, drop, Option, None, slice_get, ℤ, pos, negsuc}
 use Rattle.mh_model.specs.Boxes.{or_zero}
 
 -- what stands at a place, where what stands before it is taken

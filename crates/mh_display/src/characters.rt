@@ -1,5 +1,5 @@
 //! The characters of a text's line, one a column of the screen.
-ghost use Rattle.std.specs.Prelude.{◌≡◌, ◌<◌, ◌^◌, ◌-ℤ◌, ℕ, Some, drop, if◌then◌else◌, nat_lt, pos, slice_index};
+ghost use Rattle.std.specs.Prelude.{◌≡◌, ◌<◌, ◌^◌, ◌-ℤ◌, ℕ, Some, None, drop, if◌then◌else◌, nat_lt, pos, slice_index};
 ghost use Rattle.std.specs.Option.{option_copied};
 ghost use Rattle.mh_model.specs.Boxes.{IsNear, or_zero};
 ghost use Rattle.mh_model.specs.Layout.{character_in, unless_space};
@@ -17,25 +17,41 @@ pub(crate) fn characters_of(line: Option<&LaidLine>, first: i64) -> [u32; 60]
     requires { IsNear (2 ^ 29) first }
     ensures { (column : ℕ) → column < 60 → unless_space (Some (slice_index result column)) ≡ character_in (option_copied line.entry) (pos column -ℤ first) }
 {
-    let mut shown = [SPACE; 60];
-    if let Some(line) = line {
-        let begin = first + i64::from(line.column());
-        put_characters(&mut shown, line.text(), line.length(), begin);
+    match line {
+        Some(line) => characters_in(line, first),
+        None => blanks(),
     }
-    shown
 }
 
-/// Puts as many scalars of the text as the line has into their columns, from the one at which it begins on.
-fn put_characters(shown: &mut [u32; 60], text: &[u8], length: usize, begin: i64)
-    requires { IsNear (2 ^ 33) begin }
-    ensures { (column : ℕ) → column < 60 → slice_index shown.new column ≡ scalar_at (pos column -ℤ begin) length (scalars_of text.now) }
+/// A space in each column.
+fn blanks() -> [u32; 60]
+    ensures { (column : ℕ) → column < 60 → unless_space (Some (slice_index result column)) ≡ None }
 {
+    [SPACE; 60]
+}
+
+/// What a line shows in each column of the screen.
+fn characters_in(line: &LaidLine, first: i64) -> [u32; 60]
+    requires { IsNear (2 ^ 29) first }
+    ensures { (column : ℕ) → column < 60 → unless_space (Some (slice_index result column)) ≡ character_in (Some line.now) (pos column -ℤ first) }
+{
+    let begin = first + i64::from(line.column());
+    placed_from(line.text(), line.length(), begin)
+}
+
+/// As many scalars of the text as a line has, in their columns, from the one at which it begins on.
+fn placed_from(text: &[u8], length: usize, begin: i64) -> [u32; 60]
+    requires { IsNear (2 ^ 33) begin }
+    ensures { (column : ℕ) → column < 60 → slice_index result column ≡ scalar_at (pos column -ℤ begin) length (scalars_of text.now) }
+{
+    let mut shown = [SPACE; 60];
     let mut rest = text_from(text, begin);
     for column in 0..60 {
         let (scalar, behind) = take_scalar(rest, column as i64 - begin, length);
         shown[column] = scalar;
         rest = behind;
     }
+    shown
 }
 
 /// The text without the scalars to the left of the screen, where it begins at this column.

@@ -50,6 +50,9 @@ fn paint_rows(screen: &mut Screen, area: &Area, ink: Ink, lines: &mut Lines, win
     requires wide { window.now.right ≤ 60 }
     ensures { IsPaintedIn (letter_paint ink area.now lines.old) window.now screen.old screen.new }
 {
+    if window.bottom <= window.top {
+        return;
+    }
     let above = first_row(area);
     let before = first_column(area);
     pass_over(lines, beside(window.top, above));

@@ -1,18 +1,17 @@
 -- The first line of a text.
-use Rattle.std.specs.Prelude.{◌≡◌, ◌≢◌, ◌⊎◌, ◌&&◌, nat_lt, ℕ, zero, suc, ◌+◌, ◌-◌, ◌==◌, ◌<◌, ◌≤◌, ◌||◌, min, Bool, true, false, if◌then◌else◌, List, [], ◌∷◌, ◌++◌, length, take, drop, map, Option, Some, None, slice_index, refl}
+use Rattle.std.specs.Prelude.{◌≡◌, ◌≢◌, ◌⊎◌, ◌&&◌, nat_lt, ℕ, zero, suc, ◌+◌, ◌-◌, ◌==◌, ◌<◌, ◌≤◌, min, Bool, true, false, if◌then◌else◌, List, [], ◌∷◌, ◌++◌, length, take, drop, map, Some, None, slice_index, refl}
 use Rattle.std.specs.List.{flat_map}
 use Rattle.std.proofs.Common.{add-one, ap, ◌∙◌, sym, subst, append-nil, arith, inl, inr}
 use Rattle.std.proofs.lemmas.Bool.Decides.{eqb_tells, leb_tells, nat_tests}
 use Rattle.std.proofs.lemmas.List.{get_or-take, length-append, length-take, length-take-le, take-append-le, take_all}
 use Rattle.std.proofs.Math.ListN.{get_or-append}
 use Rattle.std.proofs.Math.Seq.{drop-append_seam}
-use Rattle.mh_model.specs.declared.picture.line.Line.{Line}
 use Rattle.mh_model.specs.declared.picture.line.Form.{Form}
 use Rattle.mh_model.specs.Lines.{paragraphs, last_space, cut_at, next_at, lines_of}
 use Rattle.mh_model.specs.Layout.{placed, lines_in_form, text_lines}
-use Rattle.mh_layout.specs.Left.{IsHead, broken_length, broken_rest, ends_here, lines_left}
+use Rattle.mh_layout.specs.Left.{IsHead, broken_length, broken_rest}
 use Rattle.mh_layout.proofs.LineLemmas.{breaks, cut_is_within, next_is_within, one_line, last_space_more}
-use Rattle.mh_layout.proofs.TextLemmas.{HasNoReturn, HasFirst, IsRead, first_of, front_kept, is_so, left_behind, more_inside, next_is, read_more}
+use Rattle.mh_layout.proofs.TextLemmas.{HasNoReturn, IsRead, first_of, front_kept, is_so, left_behind, more_inside, next_is, read_more}
 
 take_twice : {X : Type 0} (m n : ℕ) (xs : List X) → m ≤ n → take m (take n xs) ≡ take m xs
 take_twice zero n xs few = refl

@@ -1,12 +1,9 @@
 -- A paragraph's lines, cut by cut.
-use Rattle.std.specs.Prelude.{◌≡◌, ◌≢◌, ℕ, zero, suc, ◌+◌, ◌-◌, ◌==◌, ◌<◌, ◌≤◌, nat_le, Bool, true, false, if◌then◌else◌, List, [], ◌∷◌, ◌++◌, length, take, drop, map, slice_index, refl}
-use Rattle.std.proofs.Common.{inl, inr, ap, ◌∙◌, sym, subst, append_assoc, arith, add-one}
+use Rattle.std.specs.Prelude.{◌≡◌, ◌≢◌, ℕ, zero, suc, ◌+◌, ◌-◌, ◌==◌, ◌<◌, ◌≤◌, nat_le, Bool, true, false, if◌then◌else◌, List, [], ◌∷◌, length, take, drop, slice_index, refl}
+use Rattle.std.proofs.Common.{inl, inr, ap, ◌∙◌, sym, subst, arith, add-one}
 use Rattle.std.proofs.lemmas.Bool.{le-leb, lt-leb}
 use Rattle.std.proofs.lemmas.Bool.Decides.{eqb_tells}
-use Rattle.std.proofs.lemmas.List.{length-drop, get_or-drop, take-append-le}
-use Rattle.mh_model.specs.declared.picture.line.Line.{Line}
-use Rattle.mh_model.specs.declared.picture.line.Form.{Form}
-use Rattle.mh_model.specs.Layout.{placed}
+use Rattle.std.proofs.lemmas.List.{length-drop}
 use Rattle.mh_model.specs.Lines.{last_space, cut_at, next_at, lines_in, lines_of}
 
 -- one more index

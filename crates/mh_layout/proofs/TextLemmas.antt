@@ -1,14 +1,12 @@
 -- A text's paragraphs and lines, from the front.
-use Rattle.std.specs.Prelude.{◌≡◌, ◌≢◌, ℕ, zero, suc, ◌+◌, ◌==◌, ◌<◌, ◌≤◌, Bool, true, false, not, ◌&&◌, if◌then◌else◌, cond, List, [], ◌∷◌, ◌++◌, length, take, drop, map, Option, Some, None, slice_index, slice_get, refl}
+use Rattle.std.specs.Prelude.{◌≡◌, ◌≢◌, ℕ, zero, suc, ◌+◌, ◌==◌, ◌<◌, ◌≤◌, Bool, true, false, List, [], ◌∷◌, ◌++◌, length, take, drop, map, Option, slice_index, slice_get, refl}
 use Rattle.std.specs.Option.{is_none}
-use Rattle.std.specs.List.{flat_map, slice_split}
-use Rattle.std.proofs.Common.{ap, ◌∙◌, sym, subst, append-nil, arith, add-one, inl, inr}
+use Rattle.std.specs.List.{flat_map}
+use Rattle.std.proofs.Common.{ap, ◌∙◌, sym, arith, add-one, inl, inr}
 use Rattle.std.proofs.lemmas.Bool.Decides.{eqb_tells, nat_tests}
 use Rattle.std.proofs.lemmas.List.{drop_all, get_or-drop, length-drop}
-use Rattle.mh_group.specs.declared.justification.Justification.{Justification}
-use Rattle.mh_model.specs.declared.picture.line.Line.{Line}
 use Rattle.mh_model.specs.declared.picture.line.Form.{Form}
-use Rattle.mh_model.specs.Lines.{paragraphs, lines_of}
+use Rattle.mh_model.specs.Lines.{paragraphs}
 use Rattle.mh_model.specs.Layout.{placed, lines_in_form, text_lines}
 
 -- none of the first n scalars parts paragraphs

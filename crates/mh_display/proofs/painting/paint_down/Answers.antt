@@ -13,7 +13,7 @@ pub loop-left-preserved : goal.loop-left-preserved
 loop-left-preserved c = (
   omega (arith, c.loop-left.invariant.0),
   next_down (all c.args.objects.now) (reverse c.args.stack.now) c.args.stack.now c.loop-left.left (c.loop-left.left - 1) c.index-stack-left.result _ _ _ _ c.loop-left.invariant.0
-      (omega (arith, c.loop-left-test.true)) (search rules) c.lined.ensures
+      (omega (arith, c.loop-left-test.true)) (search rules) c.boxed.ensures
       (subst (λ (s : Surface). IsDown (all c.args.objects.now) (reverse c.args.stack.now) (reverse (take c.loop-left.left c.args.stack.now)) c.args.screen.now s) (sym c.is_done_at.ensures.same) c.loop-left.invariant.1)
       c.paint_found.ensures,
 )

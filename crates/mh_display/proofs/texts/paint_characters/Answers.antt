@@ -12,6 +12,9 @@ loop-left-init c = (c.stale_in-left.type_inv, all_left (λ k. put (shown_paint c
 pub paint_cell-requires-clause-wide : goal.paint_cell-requires-clause-wide
 paint_cell-requires-clause-wide c = omega (arith, lowest_inside _ _ _ _ _ _ c.loop-left.left (search rules) c.loop-left.invariant.0 c.loop-left.invariant.1, c.lowest-column.ensures, c.requires.wide)
 
+pub bounds-shown-column : goal.bounds-shown-column
+bounds-shown-column c = omega (arith, lowest_inside _ _ _ _ _ _ c.loop-left.left (search rules) c.loop-left.invariant.0 c.loop-left.invariant.1, c.lowest-column.ensures, c.requires.wide)
+
 pub without-left-requires : goal.without-left-requires
 without-left-requires c = omega (arith, lowest_inside _ _ _ _ _ _ c.loop-left.left (search rules) c.loop-left.invariant.0 c.loop-left.invariant.1, c.lowest-column.ensures, c.requires.wide)
 

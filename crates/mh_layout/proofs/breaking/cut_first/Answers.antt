@@ -1,4 +1,4 @@
-use Rattle.std.proofs.Common.{◌≡◌, ◌∷◌, ◌≤◌, [], length, min, ap, subst, sym, ◌∙◌, arith, List, ℕ}
+use Rattle.std.proofs.Common.{◌≡◌, ◌≤◌, length, min, ap, subst, sym, ◌∙◌, arith, ℕ}
 use Rattle.mh_model.specs.Scalars.{scalars_of}
 use Rattle.mh_layout.proofs.HeadLemmas.{cut_ended, cut_returned}
 use Rattle.mh_layout.proofs.TextLemmas.{IsRead, read_all, read_more}

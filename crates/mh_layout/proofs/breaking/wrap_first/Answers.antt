@@ -1,4 +1,4 @@
-use Rattle.std.proofs.Common.{◌≡◌, ◌∷◌, ◌+◌, ◌-◌, ◌≤◌, ◌<◌, ℕ, List, Option, Bor, drop, sym, subst, ◌∙◌, ap, arith}
+use Rattle.std.proofs.Common.{◌≡◌, ◌+◌, ◌-◌, ◌<◌, ℕ, List, Option, Bor, drop, sym, subst, ◌∙◌, ap, arith}
 use Rattle.mh_model.specs.Lines.{last_space}
 use Rattle.mh_model.specs.Scalars.{scalars_of}
 use Rattle.mh_layout.specs.Left.{IsHead, broken_rest}

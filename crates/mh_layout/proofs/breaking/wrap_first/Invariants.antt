@@ -1,4 +1,4 @@
-use Rattle.std.proofs.Common.{◌≡◌, ℕ, ◌+◌, ◌-◌, ◌<◌, drop}
+use Rattle.std.proofs.Common.{◌≡◌, ◌+◌, ◌-◌, ◌<◌, drop}
 use Rattle.mh_model.specs.Lines.{last_space}
 use Rattle.mh_model.specs.Scalars.{scalars_of}
 use Rattle.mh_layout.proofs.TextLemmas.{IsRead}

@@ -1,7 +1,5 @@
-use Rattle.std.proofs.Common.{◌≡◌, ◌<◌, ◌++◌, ◌∷◌, [], length, arith, sym, ◌∙◌, ap, List, ℕ, Some, None}
+use Rattle.std.proofs.Common.{◌≡◌, ◌<◌, length, arith, sym, ◌∙◌, Some, None}
 use Rattle.std.proofs.lemmas.Bool.Decides.{nat_tests}
-use Rattle.mh_model.specs.Scalars.{scalars_of}
-use Rattle.mh_layout.specs.Left.{as_list}
 use Rattle.mh_layout.proofs.ScalarLemmas.{fewer_left, front_read, no_scalars}
 use Rattle.mh_layout.proofs.scalars.first_of.Goals as goal
 

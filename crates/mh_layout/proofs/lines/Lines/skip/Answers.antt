@@ -1,4 +1,4 @@
-use Rattle.std.proofs.Common.{drop, sym, ◌∙◌, ap, rules, arith}
+use Rattle.std.proofs.Common.{drop, ◌∙◌, ap, rules, arith}
 use Rattle.mh_layout.proofs.TextLemmas.{drop_one, none_behind}
 use Rattle.mh_layout.proofs.lines.Lines.skip.Goals as goal
 

@@ -3,7 +3,7 @@ use Rattle.std.specs.Prelude.{pos, ◌-ℤ◌}
 use Rattle.mh_model.specs.Boxes.{or_zero}
 use Rattle.mh_model.specs.Scalars.{scalars_of}
 use Rattle.mh_display.specs.Places.{scalar_at}
-use Rattle.mh_display.proofs.characters.put_characters.Given as goal
+use Rattle.mh_display.proofs.characters.placed_from.Given as goal
 
 abbrev pub invariant-loop-column : goal.invariant-loop-column
 invariant-loop-column l = record {
