@@ -11,9 +11,9 @@ use mh_layout::{LaidLine, behind_first, first_of};
 /// The scalar that paints nothing.
 pub(crate) const SPACE: u32 = 0x20;
 
-/// What a line shows in each column of the screen, if there is a line: a space where it shows nothing. Its box begins at this
-/// column, on the screen or off it.
-pub(crate) fn characters_of(line: Option<&LaidLine>, first: i64) -> [u32; 60]
+/// What a line shows in each column of the screen, if there is a line: its code points, and a space where it shows nothing. Its
+/// box begins at this column, on the screen or off it.
+pub fn characters_of(line: Option<&LaidLine>, first: i64) -> [u32; 60]
     requires { IsNear (2 ^ 29) first }
     ensures { (column : ℕ) → column < 60 → unless_space (Some (slice_index result column)) ≡ character_in (option_copied line.entry) (pos column -ℤ first) }
 {

@@ -2,9 +2,11 @@
 use crate::cases::all_hold;
 use mh_base::Area;
 use mh_cases::{Question, bytes, said, word};
-use mh_display::{Picture, changed_rows, character_at, goes_through, lay_out, stroke_of};
+use mh_display::{Picture, changed_rows, characters_of, goes_through, stroke_of};
 use mh_group::Justification;
-use mh_model::{Drawing, Figure, Line, Point};
+use mh_layout::{LaidLine, Lines, first_of};
+use mh_model::picture::boxes::{first_column, first_row};
+use mh_model::{Drawing, Figure, Point};
 use std::alloc::Global;
 
 /// A justification, whether lines are wrapped, and a box by its place and its size in units; then a text,
@@ -43,7 +45,7 @@ fn area_of(form: &str) -> Option<Area> {
 }
 
 /// The lines of the text in this form.
-fn lines_of(alloc: Global, form: &str, text: &[u8]) -> Option<Vec<Line>> {
+fn lines_of<'a>(form: &str, text: &'a [u8]) -> Option<Lines<'a>> {
     let area = area_of(form)?;
     let wraps = word(form, 1) == "wrap";
     let justification = match word(form, 0) {
@@ -51,23 +53,26 @@ fn lines_of(alloc: Global, form: &str, text: &[u8]) -> Option<Vec<Line>> {
         "centre" => Justification::Centre,
         _ => Justification::Start,
     };
-    lay_out(alloc, text, &area, wraps, justification).ok()
+    Some(Lines::of(text, &area, wraps, justification))
 }
 
-fn put_lines(alloc: Global, told: &mut Vec<u8>, lines: &[Line]) -> Option<()> {
-    for line in lines {
-        let column = line.column;
-        told.extend_from_slice(format!(in alloc; "{column} ").ok()?.as_bytes())
+fn put_line(alloc: Global, told: &mut Vec<u8>, line: &LaidLine) -> Option<()> {
+    let column = line.column();
+    told.extend_from_slice(format!(in alloc; "{column} ").ok()?.as_bytes())
+        .ok()?;
+    let mut rest = line.text();
+    for _ in 0..line.length() {
+        let (scalar, behind) = first_of(rest)?;
+        let scalar = char::from_u32(scalar)?;
+        told.extend_from_slice(format!(in alloc; "{scalar}").ok()?.as_bytes())
             .ok()?;
-        for scalar in line.scalars.as_slice() {
-            let scalar = char::from_u32(*scalar)?;
-            told.extend_from_slice(format!(in alloc; "{scalar}").ok()?.as_bytes())
-                .ok()?;
-        }
-        told.push(b'\n').ok()?;
+        rest = behind;
     }
-    Some(())
+    told.push(b'\n').ok()
 }
+
+/// More lines than any of these texts has.
+const MOST_LINES: usize = 1000;
 
 struct Laid;
 
@@ -75,10 +80,15 @@ impl Question for Laid {
     fn answer(alloc: Global, asked: &str, _: &[u8]) -> Option<Vec<u8>> {
         let (form, text) = asked.split_once(": ")?;
         let text = bytes(alloc, text)?;
-        let lines = lines_of(alloc, form, text.as_slice())?;
+        let mut lines = lines_of(form, text.as_slice())?;
         let mut told = Vec::new(alloc);
-        let put = put_lines(alloc, &mut told, lines.as_slice());
-        put.and(Some(told))
+        for _ in 0..MOST_LINES {
+            let Some(line) = lines.next() else {
+                break;
+            };
+            put_line(alloc, &mut told, &line)?;
+        }
+        Some(told)
     }
 }
 
@@ -99,19 +109,25 @@ impl Question for Shown {
         let column = word(asked, 0).parse::<u32>().ok()?;
         let row = word(asked, 1).parse::<u32>().ok()?;
         let area = area_of(form)?;
-        let lines = lines_of(alloc, form, b"one two three\rx")?;
-        character_told(alloc, character_at(lines.as_slice(), &area, column, row))
+        let mut lines = lines_of(form, b"one two three\rx")?;
+        let above = i64::from(row) - first_row(&area);
+        if above < 0 {
+            return said(alloc, b"none");
+        }
+        lines.skip(above as usize);
+        let shown = characters_of(lines.next().as_ref(), first_column(&area));
+        character_told(alloc, shown.get(column as usize).copied())
     }
 }
 
 /// A character, if there is one.
 fn character_told(alloc: Global, found: Option<u32>) -> Option<Vec<u8>> {
     match found {
-        Some(scalar) => {
+        Some(scalar) if scalar != 0x20 => {
             let scalar = char::from_u32(scalar)?;
             Some(format!(in alloc; "{scalar}").ok()?.into_bytes())
         }
-        None => said(alloc, b"none"),
+        _ => said(alloc, b"none"),
     }
 }
 
