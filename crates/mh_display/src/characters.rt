@@ -13,7 +13,7 @@ pub(crate) const SPACE: u32 = 0x20;
 
 /// What a line shows in each column of the screen, if there is a line: its code points, and a space where it shows nothing. Its
 /// box begins at this column, on the screen or off it.
-pub fn characters_of(line: Option<&LaidLine>, first: i64) -> [u32; 60]
+pub(crate) fn characters_of(line: Option<&LaidLine>, first: i64) -> [u32; 60]
     requires { IsNear (2 ^ 29) first }
     ensures { (column : ℕ) → column < 60 → unless_space (Some (slice_index result column)) ≡ character_in (option_copied line.entry) (pos column -ℤ first) }
 {

@@ -22,7 +22,6 @@ mod strokes;
 mod texts;
 mod window;
 
-pub use characters::characters_of;
 pub use mh_model::Picture;
 pub use rows::changed_rows;
 pub use screen::Screen;

@@ -2,9 +2,9 @@
 use crate::cases::all_hold;
 use mh_base::Area;
 use mh_cases::{Question, bytes, said, word};
-use mh_display::{Picture, changed_rows, characters_of, goes_through, stroke_of};
+use mh_display::{Picture, changed_rows, goes_through, stroke_of};
 use mh_group::Justification;
-use mh_layout::{LaidLine, Lines, first_of};
+use mh_layout::{LaidLine, Lines, behind_first, first_of};
 use mh_model::picture::boxes::{first_column, first_row};
 use mh_model::{Drawing, Figure, Point};
 use std::alloc::Global;
@@ -115,9 +115,21 @@ impl Question for Shown {
             return said(alloc, b"none");
         }
         lines.skip(above as usize);
-        let shown = characters_of(lines.next().as_ref(), first_column(&area));
-        character_told(alloc, shown.get(column as usize).copied())
+        let Some(line) = lines.next() else {
+            return said(alloc, b"none");
+        };
+        let place = i64::from(column) - first_column(&area) - i64::from(line.column());
+        character_told(alloc, scalar_in(&line, place))
     }
+}
+
+/// The scalar at this place of the line, if it has one there.
+fn scalar_in(line: &LaidLine, place: i64) -> Option<u32> {
+    if place < 0 || line.length() as i64 <= place {
+        return None;
+    }
+    let (scalar, _) = first_of(behind_first(line.text(), place as usize))?;
+    Some(scalar)
 }
 
 /// A character, if there is one.
