@@ -1,6 +1,6 @@
 -- Objects with a text that was brought, put at their places.
-use Rattle.std.proofs.Common.{◌≡◌, ℕ, zero, suc, ◌+◌, ◌≤◌, Bool, true, false, if◌then◌else◌, List, [], ◌∷◌, ◌++◌, length, drop, refl, ap, sym, subst, ◌∙◌, append_assoc, append-nil, add-one, arith}
-use Rattle.std.specs.Prelude.{Option, None, slice_get, slice_set}
+use Rattle.std.proofs.Common.{◌≡◌, ℕ, zero, suc, ◌+◌, Bool, true, false, if◌then◌else◌, List, [], ◌∷◌, ◌++◌, length, refl, ap, sym, subst, ◌∙◌, append_assoc, arith}
+use Rattle.std.specs.Prelude.{None, slice_get, slice_set}
 use Rattle.std.proofs.lemmas.List.{length-append}
 use Rattle.std.proofs.Math.Seq.{set-append_seam}
 use Rattle.indexmap.specs.IndexMap.{set_value_at}
@@ -9,37 +9,8 @@ use Rattle.mh_model.specs.declared.object.Object.{Object}
 use Rattle.mh_model.specs.Rules.{with_text, text_brought}
 use Rattle.mh_model.specs.State.{Objects}
 use Rattle.mh_store.specs.declared.ready.Ready.{Ready}
-use Rattle.mh_store.specs.Bringing.{with_brought, found_ready, ready_from, all_put, entries_put, keys_of, AreOwn}
+use Rattle.mh_store.specs.Bringing.{with_brought, ready_from, all_put, entries_put, keys_of, AreOwn}
 use Rattle.mh_store.specs.Table.{IsKeyed, objects_of}
-
--- The list of them
-
-drop_past : {X : Type 0} (xs : List X) (n : ℕ) → length xs ≤ n → drop n xs ≡ []
-drop_past [] zero past = refl
-drop_past [] (suc n) past = refl
-drop_past (x ∷ xs) zero past = absurd (omega (arith, past))
-drop_past (x ∷ xs) (suc n) past = drop_past xs n (omega (arith, past))
-
-from_here : (n : ℕ) (is : ObjRef → Bool) (text : List ℕ) (os : List Object) (k : ℕ) → ready_from n is text (drop k os) ≡ found_ready n is text (slice_get os k) ++ ready_from (n + 1) is text (drop (suc k) os)
-from_here n is text [] zero = refl
-from_here n is text [] (suc k) = refl
-from_here n is text (x ∷ os) zero = refl
-from_here n is text (x ∷ os) (suc k) = from_here n is text os k
-
--- a step of the pass over the objects
-pub ready_more : (n : ℕ) (is : ObjRef → Bool) (text : List ℕ) (os : List Object) (found : Option Object) (done more all : List Ready) → found ≡ slice_get os n → more ≡ done ++ found_ready n is text found → done ++ ready_from n is text (drop n os) ≡ all → more ++ ready_from (n + 1) is text (drop (n + 1) os) ≡ all
-ready_more n is text os found done more all here put so_far =
-    ap (λ (rs : List Ready). rs ++ ready_from (n + 1) is text (drop (n + 1) os)) put
-    ∙ append_assoc done (found_ready n is text found) (ready_from (n + 1) is text (drop (n + 1) os))
-    ∙ ap (λ (x : Option Object). done ++ (found_ready n is text x ++ ready_from (n + 1) is text (drop (n + 1) os))) here
-    ∙ ap (λ (k : ℕ). done ++ (found_ready n is text (slice_get os n) ++ ready_from (n + 1) is text (drop k os))) (add-one n)
-    ∙ ap (λ (rs : List Ready). done ++ rs) (sym (from_here n is text os n))
-    ∙ so_far
-
--- the end of it
-pub ready_done : (n : ℕ) (is : ObjRef → Bool) (text : List ℕ) (os : List Object) (done all : List Ready) → length os ≤ n → done ++ ready_from n is text (drop n os) ≡ all → done ≡ all
-ready_done n is text os done all past so_far =
-    sym (append-nil done) ∙ ap (λ (xs : List Object). done ++ ready_from n is text xs) (sym (drop_past os n past)) ∙ so_far
 
 -- Putting
 

@@ -14,9 +14,10 @@ with_brought text o = record o { body = brought text o.body }
 abbrev pub ready_at : ℕ → (ObjRef → Bool) → List ℕ → Object → List Ready
 ready_at n is text o = if is o.fixed.key then record { place = n; kept = with_brought text o } ∷ [] else []
 
-abbrev pub found_ready : ℕ → (ObjRef → Bool) → List ℕ → Option Object → List Ready
-found_ready n is text None = []
-found_ready n is text (Some o) = ready_at n is text o
+-- the one that was found at this place, with the text
+abbrev pub found_ready : ℕ → List ℕ → Option Object → List Ready
+found_ready n text None = []
+found_ready n text (Some o) = record { place = n; kept = with_brought text o } ∷ []
 
 -- those among these objects, the first of which is at this place
 abbrev pub ready_from : ℕ → (ObjRef → Bool) → List ℕ → List Object → List Ready

@@ -1,4 +1,5 @@
 pub mod Table
+pub mod Places
 pub mod Trying
 pub mod Keeping
 pub mod Bringing

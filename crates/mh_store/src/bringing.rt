@@ -5,29 +5,24 @@ ghost use Rattle.std.specs.Option.{option_copied};
 ghost use Rattle.indexmap.specs.IndexMap.{set_value_at};
 ghost use Rattle.mh_store.specs.Bringing.{found_ready, entries_put};
 
+use crate::Boxed;
 use crate::ready::Ready;
-use crate::{Awaits, Boxed};
 use indexmap::IndexMap;
 use mh_base::Octets;
 use std::alloc::{AllocError, Global};
 
-/// Adds the object with the text, and its place, if there is one and it is meant.
-pub(crate) fn add_ready<A: Awaits>(
+/// Adds the object with the text, and its place, if there is one.
+pub(crate) fn add_ready(
     alloc: Global,
     ready: &mut Vec<Ready>,
     place: usize,
     found: Option<&Boxed>,
-    awaiting: &A,
     text: &Octets,
 ) -> Result<(), AllocError>
-    ensures { let found = option_copied found.entry in
-        OnOk result (ready.new.items
-        ≡ ready.old.items ++ found_ready place (A.is awaiting.now) text.now found) }
+    ensures { OnOk result (ready.new.items
+        ≡ ready.old.items ++ found_ready place text.now (option_copied found.entry)) }
 {
-    let Some(kept) = found else {
-        return Ok(());
-    };
-    if awaiting.awaits(&kept.object().fixed.get().key) {
+    if let Some(kept) = found {
         let kept = kept.with_text(alloc, text)?;
         ready.push(Ready { place, kept })?;
     }

@@ -9,14 +9,16 @@ ghost use Rattle.mh_model.specs.Edits.{edited};
 ghost use Rattle.mh_model.specs.Service.{object_at, is_in, fresh};
 ghost use Rattle.mh_store.specs.Apart.{AreApart};
 ghost use Rattle.mh_store.specs.Bringing.{ready_from, all_put, keys_of, AreOwn};
+ghost use Rattle.mh_store.specs.Places.{is_among, places_at, places_from};
 ghost use Rattle.mh_store.specs.Placing.{renewed_in};
-ghost use Rattle.mh_store.specs.Table.{changed_at, entry_of, is_new, IsPlace};
+ghost use Rattle.mh_store.specs.Table.{changed_at, entry_of, is_new};
 ghost use Rattle.mh_store.specs.Trying.{left_over, edited_in, given_in};
 
-use crate::Awaits;
 use crate::boxed::Boxed;
 use crate::bringing::{add_ready, put_all, put_boxed};
+use crate::places::{push_place, rise};
 use crate::ready::Ready;
+use crate::table::{find, place_of};
 use indexmap::IndexMap;
 use mh_base::{GroupName, ObjRef, Octets, Value};
 use mh_model::{Edit, FixedPart, Object};
@@ -119,19 +121,45 @@ impl Group {
         edit_under(&mut self.table, at.number, edit)
     }
 
-    /// The objects to which a text is brought, with it, and with their places.
-    pub(crate) fn ready<A: Awaits>(
+    /// The places of the objects that have these references, in rising order. The first object here stands at
+    /// `first`. Each is found by its number: what else is here costs nothing.
+    pub(crate) fn places(&self, first: usize, named: &[ObjRef]) -> Result<Vec<usize>, AllocError>
+        requires { first < 2 ^ 63 }
+        ensures { IfOk result (λ places. places.items ≡ places_from first (is_among named.now) self.now) }
+    {
+        let mut places = Vec::new(self.alloc);
+        for at in named {
+            self.push_place(&mut places, first, at)?;
+        }
+        rise(&mut places);
+        Ok(places)
+    }
+
+    /// Adds the place of the object that has this reference, if it is here.
+    fn push_place(
         &self,
-        awaiting: &A,
-        text: &Octets,
-    ) -> Result<Vec<Ready>, AllocError>
+        places: &mut Vec<usize>,
+        first: usize,
+        at: &ObjRef,
+    ) -> Result<(), AllocError>
+        requires { first < 2 ^ 63 }
+        ensures { OnOk result (places.new.items ≡ places.old.items ++ places_at first self.now at.now) }
+    {
+        if at.group != self.name {
+            return Ok(());
+        }
+        push_place(places, first, &self.table, at.number)
+    }
+
+    /// The objects to which a text is brought, with it, and with their places.
+    pub(crate) fn ready(&self, waiting: &[ObjRef], text: &Octets) -> Result<Vec<Ready>, AllocError>
         ensures { IfOk result (λ ready. ready.items
-            ≡ ready_from 0 (A.is awaiting.now) text.now self.now) }
+            ≡ ready_from 0 (is_among waiting.now) text.now self.now) }
     {
         let mut ready = Vec::new(self.alloc);
-        for place in 0..self.len() {
-            let found = self.boxed_at(place);
-            add_ready(self.alloc, &mut ready, place, found, awaiting, text)?;
+        let places = self.places(0, waiting)?;
+        for place in &places {
+            add_ready(self.alloc, &mut ready, *place, self.boxed_at(*place), text)?;
         }
         Ok(ready)
     }
@@ -166,54 +194,6 @@ impl Group {
         }
         give_under(&mut self.table, at.number, value)
     }
-}
-
-/// Where the object under this number stands, if the objects behind the group itself are numbered one by one
-/// from that of the first of them on, as a file mostly does. It is a guess: who asks looks whether it is right.
-fn likely_place(table: &IndexMap<u32, Boxed>, at: u32) -> usize {
-    match table.get_index(1) {
-        Some((first, _)) if *first <= at => (at - *first) as usize + 1,
-        _ => 0,
-    }
-}
-
-/// The object under this number. Where it stands at its likely place nothing is hashed.
-fn find(table: &IndexMap<u32, Boxed>, at: u32) -> Option<&Boxed>
-    ensures { option_copied result ≡ lookup (nat_eq at) table.now.entries }
-{
-    match table.get_index(likely_place(table, at)) {
-        Some((own, kept)) if *own == at => Some(kept),
-        _ => find_by_hash(table, at),
-    }
-}
-
-/// The same by the table alone. It stands aside, so that the way that is mostly gone needs few registers.
-#[inline(never)]
-fn find_by_hash(table: &IndexMap<u32, Boxed>, at: u32) -> Option<&Boxed>
-    ensures { option_copied result ≡ lookup (nat_eq at) table.now.entries }
-{
-    table.get(&at)
-}
-
-/// Where the object under this number stands, looked for as above; behind all where there is none.
-fn place_of(table: &IndexMap<u32, Boxed>, at: u32) -> usize
-    ensures { IsPlace at table.now.entries result }
-{
-    let _ = table.len();
-    let likely = likely_place(table, at);
-    match table.get_index(likely) {
-        Some((own, _)) if *own == at => likely,
-        _ => place_by_hash(table, at),
-    }
-}
-
-/// The same by the table alone.
-#[inline(never)]
-fn place_by_hash(table: &IndexMap<u32, Boxed>, at: u32) -> usize
-    ensures { IsPlace at table.now.entries result }
-{
-    let behind = table.len();
-    table.get_index_of(&at).unwrap_or(behind)
 }
 
 /// Changes the body of the object under this number. Where there is none the change comes back.

@@ -8,18 +8,18 @@
 //! what follows from it, is left to the machine.
 #![tactic(auto)]
 
-pub mod awaits;
 pub mod boxed;
 mod bringing;
 pub mod group;
 mod keeping;
 pub mod looks;
 pub mod objects;
+mod places;
 mod placing;
 mod ready;
+mod table;
 mod trying;
 
-pub use awaits::Awaits;
 pub use boxed::Boxed;
 pub use group::Group;
 pub use objects::Objects;

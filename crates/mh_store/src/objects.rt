@@ -8,6 +8,7 @@ ghost use Rattle.mh_model.specs.Rules.{changed, text_brought, all_placed};
 ghost use Rattle.mh_model.specs.Service.{object_at, parts};
 ghost use Rattle.mh_model.specs.State.{all};
 ghost use Rattle.mh_store.specs.Bringing.{ready_from, all_put, keys_of, AreOwn};
+ghost use Rattle.mh_store.specs.Places.{is_among, places_from};
 ghost use Rattle.mh_store.specs.Placing.{renewed, renewed_in};
 ghost use Rattle.mh_store.specs.Trying.{of_scene};
 
@@ -16,7 +17,7 @@ use crate::ready::Ready;
 use crate::trying::{
     edit_application_first, edit_scene_first, give_application_first, give_scene_first,
 };
-use crate::{Awaits, Boxed, Group};
+use crate::{Boxed, Group};
 use mh_base::{ObjRef, Octets, Value};
 use mh_group::Position;
 use mh_model::{Edit, Object};
@@ -101,6 +102,18 @@ impl Objects {
         self.application.len() + len_in(&self.scene)
     }
 
+    /// The places of the objects that have these references, in the one list, in rising order and each once. Each is
+    /// found by its reference: what else is present costs nothing.
+    pub fn places_of(&self, named: &[ObjRef]) -> Result<Vec<usize>, AllocError>
+        ensures { IfOk result (λ places. places.items ≡ places_from 0 (is_among named.now) (all self.now)) }
+    {
+        let behind = self.application.len();
+        let mut places = self.application.places(0, named)?;
+        let mut others = places_in(self.application.allocator(), &self.scene, behind, named)?;
+        places.append(&mut others)?;
+        Ok(places)
+    }
+
     /// Changes the body of the object at this reference; where there is none, nothing.
     #[inline(always)]
     pub fn edit(&mut self, at: &ObjRef, edit: Edit) -> Result<(), AllocError>
@@ -130,17 +143,17 @@ impl Objects {
         }
     }
 
-    /// Brings a text to the objects that are meant. All that wants memory is made before the first of
+    /// Brings a text to the objects that wait for it. All that wants memory is made before the first of
     /// them is changed.
-    pub fn bring_text<A: Awaits>(&mut self, awaiting: &A, text: &Octets) -> Result<(), AllocError>
-        ensures done { OnOk result (self.new ≡ text_brought (A.is awaiting.now) text.now self.old) }
+    pub fn bring_text(&mut self, waiting: &[ObjRef], text: &Octets) -> Result<(), AllocError>
+        ensures done { OnOk result (self.new ≡ text_brought (is_among waiting.now) text.now self.old) }
         ensures own { parts self.new.application ≡ parts self.old.application }
         ensures others { parts self.new.scene ≡ parts self.old.scene }
         ensures kept { OnErr result (self.new ≡ self.old) }
     {
         let alloc = self.application.allocator();
-        let application = self.application.ready(awaiting, text)?;
-        let scene = ready_in(alloc, &self.scene, awaiting, text)?;
+        let application = self.application.ready(waiting, text)?;
+        let scene = ready_in(alloc, &self.scene, waiting, text)?;
         self.application.put(application);
         put_in(&mut self.scene, scene);
         Ok(())
@@ -226,18 +239,34 @@ fn len_in(scene: &Option<Group>) -> usize
     }
 }
 
-/// The objects of the scene to which a text is brought, with it, and with their places.
-fn ready_in<A: Awaits>(
+/// The places of the scene's objects that have these references; its first object stands at `first`.
+fn places_in(
     alloc: Global,
     scene: &Option<Group>,
-    awaiting: &A,
+    first: usize,
+    named: &[ObjRef],
+) -> Result<Vec<usize>, AllocError>
+    requires { first < 2 ^ 63 }
+    ensures { IfOk result (λ places. places.items ≡ places_from first (is_among named.now) (of_scene scene.now)) }
+{
+    match scene {
+        Some(group) => group.places(first, named),
+        None => Ok(Vec::new(alloc)),
+    }
+}
+
+/// The objects of the scene to which a text is brought, with it, and with their places.
+fn ready_in(
+    alloc: Global,
+    scene: &Option<Group>,
+    waiting: &[ObjRef],
     text: &Octets,
 ) -> Result<Vec<Ready>, AllocError>
     ensures { IfOk result (λ ready. ready.items
-        ≡ ready_from 0 (A.is awaiting.now) text.now (of_scene scene.now)) }
+        ≡ ready_from 0 (is_among waiting.now) text.now (of_scene scene.now)) }
 {
     match scene {
-        Some(group) => group.ready(awaiting, text),
+        Some(group) => group.ready(waiting, text),
         None => Ok(Vec::new(alloc)),
     }
 }
