@@ -24,7 +24,8 @@ use Rattle.mh_model.specs.Service.{object_at}
 use Rattle.mh_model.specs.State.{Objects, all}
 use Rattle.mh_model.proofs.ServiceLemmas.{same_ref-same}
 use Rattle.mh_store.proofs.PlacingLemmas.{all-changed}
-use Rattle.mh_machine.specs.Marks.{is_among, SpoilsEach}
+use Rattle.mh_store.specs.Places.{is_among}
+use Rattle.mh_machine.specs.Marks.{SpoilsEach}
 use Rattle.mh_machine.proofs.StageLemmas.{same_cells, found_changed, paint_changed}
 
 -- One after another they are marked.

@@ -1,17 +1,13 @@
 -- Marks of several objects at once.
 use Rattle.std.specs.Prelude.{◌≡◌, ◌<◌, ℕ, Bool, true, false, List}
-use Rattle.std.specs.List.{list_any}
 use Rattle.mh_base.specs.declared.obj_ref.ObjRef.{ObjRef}
 use Rattle.mh_display.specs.Surface.{is_stale}
 use Rattle.mh_model.specs.declared.object.Object.{Object}
 use Rattle.mh_model.specs.Looks.{nothing}
 use Rattle.mh_model.specs.Picture.{paint_at}
-use Rattle.mh_model.specs.Reference.{same_ref}
+use Rattle.mh_store.specs.Places.{is_among}
 
--- it is one of these
-abbrev pub is_among : List ObjRef → ObjRef → Bool
-is_among rs r = list_any (same_ref r) rs
-
+-- it is the object of one of these
 abbrev pub is_meant : List ObjRef → Object → Bool
 is_meant rs o = is_among rs o.fixed.key
 

@@ -3,9 +3,7 @@ use Rattle.std.specs.Prelude.{ℤ, Bool, ◌+◌, List, [], ◌∷◌, drop, fil
 use Rattle.mh_model.specs.declared.event.Event.{Event}
 use Rattle.mh_model.specs.declared.object.Object.{Object}
 use Rattle.mh_model.specs.State.{State}
-use Rattle.mh_base.specs.declared.obj_ref.ObjRef.{ObjRef}
 use Rattle.mh_model.specs.Step.{is_streaming, stream_event, content_event}
-use Rattle.mh_machine.specs.Marks.{is_meant}
 
 -- the state with the first that waits taken from the queue, and the step counted
 abbrev pub shifted : State → State
@@ -16,10 +14,11 @@ abbrev pub event_by : (Object → Bool) → (Object → Event) → Option Object
 event_by is event None = []
 event_by is event (Some o) = map event (filter is (o ∷ []))
 
--- if it is one of those that wait for the file
-abbrev pub content_by : List ObjRef → Option Object → List Event
-content_by rs o = event_by (is_meant rs) content_event o
-
 -- if it is a stream that runs
 abbrev pub told_by : ℤ → Option Object → List Event
 told_by tag o = event_by is_streaming (stream_event tag) o
+
+-- the event of one that waits for a file, if it was found
+abbrev pub content_by : Option Object → List Event
+content_by None = []
+content_by (Some o) = content_event o ∷ []

@@ -9,7 +9,6 @@ ghost use Rattle.mh_machine.specs.Marks.{is_meant};
 ghost use Rattle.mh_machine.specs.Taking.{told_by, content_by};
 ghost use Rattle.mh_work.specs.Batches.{written};
 
-use crate::stage::marking::is_among;
 use mh_base::{EventType, GroupName, ObjRef, Value};
 use mh_group::{Attribute, Class};
 use mh_model::held::as_int;
@@ -123,31 +122,24 @@ pub fn content_events(
     ensures { IfOk result (λ events. events.items ≡ map spec.content_event
         (filter (is_meant waiting.now) (all objects.now))) }
 {
-    let mut events = Vec::new(alloc);
     if waiting.is_empty() {
-        return Ok(events);
+        return Ok(Vec::new(alloc));
     }
-    for place in 0..objects.len() {
-        push_content_event(&mut events, waiting, objects.at(place))?;
+    let places = objects.places_of(waiting)?;
+    let mut events = Vec::new(alloc);
+    for place in &places {
+        push_content_event(&mut events, objects.at(*place))?;
     }
     Ok(events)
 }
 
-fn push_content_event(
-    events: &mut Vec<Event>,
-    waiting: &[ObjRef],
-    found: Option<&Object>,
-) -> Result<(), AllocError>
-    ensures { OnOk result (events.new.items ≡ events.old.items
-        ++ content_by waiting.now (option_copied found.entry)) }
+fn push_content_event(events: &mut Vec<Event>, found: Option<&Object>) -> Result<(), AllocError>
+    ensures { OnOk result (events.new.items ≡ events.old.items ++ content_by (option_copied found.entry)) }
 {
-    match found {
-        Some(object) if is_among(waiting, &object.fixed.get().key) => {
-            events.push(content_event(object)?)?;
-            Ok(())
-        }
-        _ => Ok(()),
+    if let Some(object) = found {
+        events.push(content_event(object)?)?;
     }
+    Ok(())
 }
 
 fn content_event(object: &Object) -> Result<Event, AllocError>

@@ -2,7 +2,7 @@
 //!
 //! What a change can be seen in is marked, and painted when the picture is wanted.
 
-pub(crate) mod marking;
+mod marking;
 
 ghost use Rattle.std.specs.Prelude.{◌≡◌, ◌≤◌, [], false, filter, IfOk, OnOk, OnErr};
 ghost use Rattle.std.specs.Borrow.{sem};
@@ -17,11 +17,11 @@ ghost use Rattle.mh_model.specs.Rules.{all_placed, changed, text_brought};
 ghost use Rattle.mh_model.specs.Service.{object_at, parts};
 ghost use Rattle.mh_model.specs.State.{all};
 ghost use Rattle.mh_machine.specs.Lent.{StageStays};
-ghost use Rattle.mh_machine.specs.Marks.{is_among};
+ghost use Rattle.mh_store.specs.Places.{is_among};
 ghost use Rattle.mh_machine.specs.Plans.{restacked};
 
 use crate::plan::Stacking;
-use crate::stage::marking::{WaitingFor, spoil_at, spoil_each, spoil_placed};
+use crate::stage::marking::{spoil_at, spoil_each, spoil_placed};
 use mh_actions::ordering::Reorder;
 use mh_base::{GroupName, ObjRef, Octets, Value};
 use mh_display::{Screen, Stack};
@@ -177,9 +177,7 @@ impl Stage {
             return Ok(());
         }
         spoil_each(&mut self.screen, &self.objects, waiting);
-        let _ = self
-            .objects
-            .bring_text(&WaitingFor { objects: waiting }, text)?;
+        let _ = self.objects.bring_text(waiting, text)?;
         spoil_each(&mut self.screen, &self.objects, waiting);
         Ok(())
     }

@@ -3,36 +3,12 @@ ghost use Rattle.std.specs.Prelude.{◌≡◌, map};
 ghost use Rattle.mh_display.specs.Surface.{Spoils};
 ghost use Rattle.mh_model.specs.Service.{object_at};
 ghost use Rattle.mh_model.specs.State.{all};
-ghost use Rattle.mh_machine.specs.Marks.{SpoilsEach, is_among};
+ghost use Rattle.mh_machine.specs.Marks.{SpoilsEach};
 
 use mh_base::ObjRef;
 use mh_display::Screen;
 use mh_group::Position;
-use mh_model::parts::same_ref;
-use mh_store::{Awaits, Objects};
-
-/// The objects that wait for a file, each by its reference.
-#[derive(Clone, Copy)]
-pub(crate) struct WaitingFor<'a> {
-    pub objects: &'a [ObjRef],
-}
-
-impl<'a> Awaits for WaitingFor<'a> {
-    ghost use Rattle.mh_machine.specs.Marks.{is_among};
-
-    ghost is = { λ w r. is_among w.objects.now r };
-
-    fn awaits(&self, at: &ObjRef) -> bool {
-        is_among(self.objects, at)
-    }
-}
-
-/// Whether the reference is one of these.
-pub(crate) fn is_among(objects: &[ObjRef], at: &ObjRef) -> bool
-    ensures { result ≡ is_among objects.now at.now }
-{
-    objects.iter().any(|object| same_ref(at, object))
-}
+use mh_store::Objects;
 
 /// The object at this reference is to be painted anew. Where all is, the object is not even looked for.
 pub(crate) fn spoil_at(screen: &mut Screen, objects: &Objects, at: &ObjRef)

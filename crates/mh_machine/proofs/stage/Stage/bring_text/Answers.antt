@@ -3,7 +3,7 @@ use Rattle.std.proofs.Common.{ap, sym, ◌∙◌}
 use Rattle.mh_base.specs.declared.obj_ref.ObjRef.{ObjRef}
 use Rattle.mh_model.specs.Rules.{text_brought}
 use Rattle.mh_model.specs.State.{all}
-use Rattle.mh_machine.specs.Marks.{is_among}
+use Rattle.mh_store.specs.Places.{is_among}
 use Rattle.mh_machine.proofs.MarkLemmas.{brought_paint, brought_to_none, is_none, right_each}
 use Rattle.mh_machine.proofs.stage.Stage.bring_text.Goals as goal
 
