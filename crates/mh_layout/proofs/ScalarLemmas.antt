@@ -1,5 +1,5 @@
 -- A text's scalars, piece by piece.
-use Rattle.std.specs.Prelude.{◌≡◌, ℕ, zero, suc, ◌+◌, ◌-◌, ◌==◌, ◌<◌, ◌≤◌, Bool, true, false, if◌then◌else◌, List, [], ◌∷◌, ◌++◌, length, drop, Option, Some, None, slice_index, refl}
+use Rattle.std.specs.Prelude.{◌≡◌, ◌&&◌, nat_le, nat_lt, ℕ, zero, suc, ◌+◌, ◌-◌, ◌==◌, ◌<◌, ◌≤◌, Bool, true, false, if◌then◌else◌, List, [], ◌∷◌, ◌++◌, length, drop, Option, Some, None, slice_index, refl}
 use Rattle.std.proofs.Common.{ap, ◌∙◌, sym, subst, arith}
 use Rattle.std.proofs.lemmas.Bool.Decides.{nat_tests}
 use Rattle.std.proofs.lemmas.List.{length-append, length-drop}
@@ -104,3 +104,33 @@ few_in (suc n) bs =
 
 pub few_scalars : (bs : List ℕ) → length (scalars_of bs) ≤ length bs
 few_scalars bs = few_in (length bs) bs
+
+piece_is : (b : ℕ) (bs : List ℕ) → 0x20 ≤ b → b < 0x7F → piece (b ∷ bs) ≡ (Some b, 1)
+unfolding piece
+piece_is b bs low high =
+    let filled : (suc (length bs) == 0) ≡ false = grind (arith, nat_tests) in
+    let other : (b == 0x1B) ≡ false = grind (arith, nat_tests, low) in
+    let below : nat_lt b 0x80 ≡ true = grind (arith, nat_tests, high) in
+    rw (filled, other, below) refl
+
+kept_is : (b : ℕ) → 0x20 ≤ b → b < 0x7F → kept (Some b) ≡ b ∷ []
+kept_is b low high =
+    let above : nat_lt b 0x20 ≡ false = grind (arith, nat_tests, low) in
+    let under : nat_le 0x7F b ≡ false = grind (arith, nat_tests, high) in
+    let other : (b == 0x0D) ≡ false = grind (arith, nat_tests, low) in
+    rw (other, above, under) refl
+
+-- a character of ASCII that takes a cell is read at once
+pub plain_front : (b : ℕ) (bs : List ℕ) → (nat_le 0x20 b && nat_lt b 0x7F) ≡ true → scalars_of (b ∷ bs) ≡ b ∷ scalars_of bs
+plain_front b bs plain = front_read (b ∷ bs) bs (Some b, 1) (Some b) (omega arith) (sym (piece_is b bs low high)) refl (kept_is b low high)
+  where
+    both : (c d : Bool) → (c && d) ≡ true → (c ≡ true) × (d ≡ true)
+    both true true same = (refl, refl)
+    both true false same = cc
+    both false d same = cc
+
+    low : 0x20 ≤ b
+    low = grind (arith, nat_tests, (both (nat_le 0x20 b) (nat_lt b 0x7F) plain).0)
+
+    high : b < 0x7F
+    high = grind (arith, nat_tests, (both (nat_le 0x20 b) (nat_lt b 0x7F) plain).1)

@@ -1,5 +1,5 @@
 //! The scalars of a text, read off its bytes one by one: they are UTF-8, and what takes no cell is passed over.
-ghost use Rattle.std.specs.Prelude.{◌≡◌, ◌∷◌, [], MatchOption, drop, slice_index};
+ghost use Rattle.std.specs.Prelude.{◌≡◌, ◌∷◌, [], ◌&&◌, MatchOption, drop, nat_le, nat_lt, slice_index};
 ghost use Rattle.mh_model.specs.Scalars.{piece, escape_size, kept, takes_no_cell, scalars_of};
 ghost use Rattle.mh_layout.specs.Left.{as_list};
 
@@ -14,8 +14,28 @@ const REPLACEMENT: u32 = 0xFFFD;
 /// The scalar that parts two paragraphs.
 pub const RETURN: u32 = 0x0D;
 
-/// The first scalar of a text, if there is one, and the bytes behind it.
+/// The first scalar of a text, if there is one, and the bytes behind it. Most are ASCII, and are read at once.
+#[tactic(auto, using(crate::proofs::ScalarLemmas::plain_front))]
+#[inline(always)]
 pub fn first_of(text: &[u8]) -> Option<(u32, &[u8])>
+    ensures { MatchOption result (scalars_of text.now ≡ []) (λ f. scalars_of text.now ≡ f.0 ∷ scalars_of f.1.now) }
+{
+    match text.split_first() {
+        Some((byte, behind)) if is_plain(*byte) => Some((u32::from(*byte), behind)),
+        _ => first_seen(text),
+    }
+}
+
+/// Whether the byte is a character by itself that takes a cell.
+#[inline(always)]
+fn is_plain(byte: u8) -> bool
+    ensures { result ≡ (nat_le 0x20 byte && nat_lt byte 0x7F) }
+{
+    (0x20..0x7F).contains(&byte)
+}
+
+/// The same of any text.
+fn first_seen(text: &[u8]) -> Option<(u32, &[u8])>
     ensures { MatchOption result (scalars_of text.now ≡ []) (λ f. scalars_of text.now ≡ f.0 ∷ scalars_of f.1.now) }
 {
     let mut rest = text;

@@ -1,7 +1,7 @@
 use Rattle.std.proofs.Common.{◌≡◌, ◌<◌, length, arith, sym, ◌∙◌, Some, None}
 use Rattle.std.proofs.lemmas.Bool.Decides.{nat_tests}
 use Rattle.mh_layout.proofs.ScalarLemmas.{fewer_left, front_read, no_scalars}
-use Rattle.mh_layout.proofs.scalars.first_of.Goals as goal
+use Rattle.mh_layout.proofs.scalars.first_seen.Goals as goal
 
 pub loop-rest-smaller : goal.loop-rest-smaller
 loop-rest-smaller c =

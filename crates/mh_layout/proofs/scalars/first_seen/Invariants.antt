@@ -1,6 +1,6 @@
 use Rattle.std.proofs.Common.{◌≡◌, length}
 use Rattle.mh_model.specs.Scalars.{scalars_of}
-use Rattle.mh_layout.proofs.scalars.first_of.Given as goal
+use Rattle.mh_layout.proofs.scalars.first_seen.Given as goal
 
 abbrev pub invariant-loop-rest : goal.invariant-loop-rest
 invariant-loop-rest l = scalars_of l.rest ≡ scalars_of l.text
