@@ -4,6 +4,7 @@ What is fed is a line of words, each an input behind which the engine comes to r
 
     red              a key
     tick:500         so many milliseconds pass
+    tick:60000*9     nine such ticks, one after another
     stream:7         an event of the streams with this tag
     engine:3         an event of the engine with this number
     file:NAME=TEXT   the carousel brings a content file
@@ -15,7 +16,7 @@ step, which a program can do and a receiver cannot.
 from .words import KEYS
 
 SETTLE = 400        # milliseconds from an input to a capture, where the case has no clock of its own
-LEVELS = ["keys", "clock", "streams", "files", "program"]
+LEVELS = ["keys", "clock", "streams", "files", "program", "tools"]
 
 
 class Step:
@@ -28,7 +29,7 @@ class Step:
         self.kind, _, self.rest = self.word.partition(":")
 
     def level(self):
-        if self.posted_only or self.kind == "step":
+        if self.posted_only or self.kind in ("step", "run"):
             return "program"
         return {"tick": "clock", "stream": "streams", "engine": "streams", "file": "files", "scene": "files"}.get(self.kind, "keys")
 
@@ -42,7 +43,11 @@ class Step:
         if self.kind == "scene":
             name, _, octets = self.rest.partition("=")
             return "scene " + name + (" " + octets if octets else "")
-        return "%s %s" % (self.kind, self.rest)
+        return ("%s %s" % (self.kind, self.rest.partition("*")[0])).strip()
+
+    def times(self):
+        """How often the input is given; an engine comes to rest behind each 200."""
+        return int(self.rest.partition("*")[2] or 1) if self.kind == "tick" else 1
 
 
 class Case:
@@ -50,10 +55,10 @@ class Case:
 
     family = None
 
-    def __init__(self, name, rule, feed, service, files, late, lenient=False, form=None, **facts):
+    def __init__(self, name, rule, feed, service, files, late, lenient=False, **facts):
         self.name, self.rule, self.facts = name, rule, facts
         self.steps = [Step(word) for word in feed.split()]
-        self.service, self.files, self.late, self.lenient, self.form = service, files, late, lenient, form
+        self.service, self.files, self.late, self.lenient = service, files, late, lenient
 
     @property
     def id(self):
@@ -64,28 +69,40 @@ class Case:
         found = {step.level() for step in self.steps}
         if self.files or self.late:
             found.add("files")
+        if "exact" in self.facts or "program" in self.facts:
+            found.add("program")
+        if "refused" in self.facts or "verdict" in self.facts:
+            found.add("tools")
         return [level for level in LEVELS if level in found and level != "keys"]
 
     def level(self):
         return (["keys"] + self.needs())[-1]
 
+    def one_form(self):
+        """Whether the case is about its files as they are written, so that both forms have the same."""
+        return self.family.name in ("notation", "refused")
+
     def script(self):
+        if "verdict" in self.facts:
+            return "-\n"
         lines = ["run", "show"]
         for step in self.steps:
-            lines.append(step.line())
-            if not step.posted_only and step.kind != "step":
-                lines.append("run")
+            rests = [] if step.posted_only or step.kind in ("step", "run") else ["run"]
+            for turn in range(1, step.times() + 1):
+                lines += [step.line()] + (rests if turn % 200 == 0 or turn == step.times() else [])
             if step.captured:
                 lines.append("show")
         return "".join(line + "\n" for line in lines)
 
     def events(self):
         """What the house does, each with its moment in milliseconds since the service began."""
+        if "verdict" in self.facts:
+            return []
         moment, frame, told = (0 if "clock" in self.needs() else SETTLE), 1, []
         told.append({"at": moment, "capture": 1})
         for step in self.steps:
             if step.kind == "tick":
-                moment += int(step.rest)
+                moment += int(step.rest.partition("*")[0]) * step.times()
             else:
                 told.append({"at": moment, "do": step.line()})
                 moment += 0 if "clock" in self.needs() else SETTLE

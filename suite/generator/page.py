@@ -19,7 +19,7 @@ class Page:
         self.app, self.scene = Group("a", "Application"), Group("s", **fields)
         self.app.next_link = 500
         self.groups, self.files, self.late = [], {}, []
-        self.before, self.asks, self.has_log, self.stays = Group("s"), [], log, stays
+        self.before, self.asks, self.made, self.stays = Group("s"), [], None, stays
         self.before.next_link = 700
         if log:
             self.before.variable(LOG, "")
@@ -69,6 +69,9 @@ class Page:
         last.link(0, "UserInput", said, KEYS["text"])
 
     def _assembled(self):
+        """The groups, put together once: a page may make several cases."""
+        if self.made:
+            return self.made
         if self.asks:
             self._answering()
         self.scene.items = self.before.items + self.scene.items
@@ -76,7 +79,8 @@ class Page:
             self.app.link(0, "IsRunning", [Raw('TransitionTo (("~/s" 0))')])
         elif "OnStartUp" not in self.app.fields:
             self.app.fields["OnStartUp"] = ['TransitionTo (("~/s" 0))']
-        return [self.app, self.scene] + self.groups
+        self.made = [self.app, self.scene] + self.groups
+        return self.made
 
     def case(self, name, rule, feed, **facts):
         """The case: its rule in a sentence, what is fed, and what is captured (`case.Case`)."""

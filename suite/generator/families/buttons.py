@@ -69,8 +69,10 @@ def long_labels():
     page.on("yellow", act("SetLabel", 10, "new"), act("SetData", 11, "new")), page.on("blue", act("SetLabel", 10, "z" * 65536), act("SetData", 11, "z" * 65536))
     page.on("1", act("SetLabel", 10, "w" * 65535), act("SetData", 11, "w" * 65535))
     page.scene.button(12, 24, 96, 120, 16, "v" * 65536), page.scene.words(13, 24, 128, 120, 16, "u" * 65536)
+    page.scene.button(14, 24, 160, 120, 16, "t" * 65535), page.scene.words(15, 24, 192, 120, 16, "s" * 65535)
+    page.on("4", act("GetLabel", 14, 32), act("SetLabel", 10, held(32))), page.on("5", act("GetTextData", 15, 32), act("SetLabel", 10, held(32)))
     page.on("2", act("GetLabel", 12, 32), act("Append", 32, "1"), act("SetLabel", 10, held(32))), page.on("3", act("GetTextData", 13, 32), act("Append", 32, "2"), act("SetLabel", 10, held(32)))
-    yield page.case("label-at-most", "A label and a text are replaced by at most 65,535 octets", "red green yellow red yellow blue 1 2 3")
+    yield page.case("label-at-most", "A label and a text are replaced by at most 65,535 octets", "red green yellow red yellow blue 1 2 3 4 5 2 3")
 
 
 def cases():

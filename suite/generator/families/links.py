@@ -1,16 +1,11 @@
 """Links: which event a link matches, in which order links work, and which event is dealt with when."""
 from ..family import Family
 from ..page import Page
+from ..tables import EVENTS, LATER
 from ..words import RED, Raw, act, held, ref, typed
 
 FAMILY = Family("links", "Links and events: matching, data, order", "Items: what the work list holds (Emit); Taking, steps, posts, runs", "Events",
                 "ISO/IEC 13522-5, Link class: link condition and link effect; event processing")
-
-EVENTS = {"IsAvailable": 1, "ContentAvailable": 2, "IsDeleted": 3, "IsRunning": 4, "IsStopped": 5, "UserInput": 6, "TimerFired": 8,
-          "AsyncStopped": 9, "InteractionCompleted": 10, "TokenMovedFrom": 11, "TokenMovedTo": 12, "StreamEvent": 13, "HighlightOn": 17,
-          "HighlightOff": 18, "IsSelected": 21, "IsDeselected": 22, "TestEvent": 23, "FirstItemPresented": 24, "LastItemPresented": 25,
-          "HeadItems": 26, "TailItems": 27, "ItemSelected": 28, "ItemDeselected": 29, "EntryFieldFull": 30, "EngineEvent": 31}
-LATER = ("ContentAvailable", "UserInput", "TimerFired", "AsyncStopped", "InteractionCompleted", "StreamEvent", "EntryFieldFull", "EngineEvent")
 
 
 def sent():

@@ -131,10 +131,21 @@ def interaction_over():
                       "yellow 3 stream:5 4 green 5 stream:5 6 select red yellow 7 stream:5 stream:5 8")
 
 
+def revived():
+    """An object that is run again while its group is left: it does not stop any more, and is gone with the group all the same."""
+    for what in ("interacts", "runs"):
+        travel = Travel()
+        travel.s.link(11, "IsStopped", [act("Run", 10)] + ([act("SetInteractionStatus", 10, True)] if what == "interacts" else []))
+        travel.s.rectangle(11, 24, 32, 24, 32, RED), travel.s.field(10, 24, 96, 120, 16, "1", BackgroundColour=BLUE)
+        travel.log(travel.s, 10, "IsStopped", "stopped"), travel.log(travel.t, 0, "UserInput", "key"), travel.log(travel.s, 0, "UserInput", "s-key")
+        travel.t.field(10, 24, 160, 120, 16, "2", BackgroundColour=BLUE)
+        yield travel.case("revived-" + what, "An object that is run again while its scene is left goes with it: it neither interacts nor is seen", "red 1 2 red 3 select red 4 red")
+
+
 def applications():
     for way in ("launch", "quit"):
         page = Page()
-        page.app.fields["OnCloseDown"] = [act("LockScreen", 0)] if way == "lock" else []
+        page.app.fields["OnCloseDown"] = []
         page.app.rectangle(40, 24, 96, 24, 32, BLUE, Shared=True), page.app.link(0, "IsRunning", [act("TransitionTo", ref("s", 0))], Shared=True)
         page.app.fields["OnStartUp"] = []
         page.scene.rectangle(10, 24, 32, 24, 32, RED)
@@ -146,15 +157,7 @@ def applications():
         page.on("red", act("Launch", ref("b", 0)), *page.noted("behind")), page.on("green", act("Quit", ref("a", 0)), *page.noted("behind"))
         feeds = {"launch": ["red engine:1 engine:2 red engine:2", "red engine:1 red engine:3 engine:2"], "quit": ["green red", "red engine:3 engine:2"]}[way]
         for place, feed in enumerate(feeds):
-            yield copy_case(page, "%s-%d" % (way, place + 1), "Launch leaves scene and application and begins the other, without a scene; Quit ends", feed)
-
-
-def copy_case(page, name, rule, feed):
-    """The page is put together once, for several cases."""
-    if not hasattr(page, "groups_made"):
-        page.groups_made = page._assembled()
-    from ..case import Case
-    return Case(name, rule, feed, {group.path: group.text().encode() for group in page.groups_made}, {}, [])
+            yield page.case("%s-%d" % (way, place + 1), "Launch leaves scene and application and begins the other, without a scene; Quit ends", feed)
 
 
 def closing_application():
@@ -171,9 +174,9 @@ def closing_application():
     page.group("b", "Application").rectangle(10, 240, 240, 24, 32, GREEN)
     page.scene.link(0, "UserInput", [act("Launch", ref("b", 0))], 100), page.scene.link(0, "UserInput", [act("Quit", ref("a", 0))], 101)
     for name, feed in (("launch", "red"), ("quit", "green")):
-        yield copy_case(page, "close-down-" + name, "The scene closes down, then the application; all of both halts, the last first; the lock stays", feed)
+        yield page.case("close-down-" + name, "The scene closes down, then the application; all of both halts, the last first; the lock stays", feed)
 
 
 def cases():
-    for family in (closing, kept, stack_over, again, only_one, started, waiting_events, interaction_over, applications, closing_application):
+    for family in (closing, kept, stack_over, again, only_one, started, waiting_events, interaction_over, revived, applications, closing_application):
         yield from family()

@@ -126,6 +126,18 @@ def as_many_as_there_may_be():
         yield page.case("drawings-%d" % count, "Beside 256 drawings nothing more is drawn", "red green yellow green")
 
 
+def that_paint_nothing():
+    """Drawings without a colour, and rectangles of no width, count among the 256 too; what changes nothing does not."""
+    wasted = {"no-width": act("DrawRectangle", 10, 24, 0, 24, 96), "no-height": act("DrawRectangle", 10, 0, 32, 96, 32), "no-colour": act("DrawLine", 10, 0, 0, 24, 32), "outside": act("DrawLine", 10, 5000, 0, 6000, 0),
+              "beyond": act("DrawLine", 10, 0, 0, 10001, 0), "backwards": act("DrawRectangle", 10, 24, 32, 23, 64), "upwards": act("DrawRectangle", 10, 24, 32, 64, 31)}
+    for name, action in wasted.items():
+        page = Page(log=False)
+        page.scene.art(10, 24, 32, 240, 160, OrigLineWidth=0, OrigRefFillColour=GREY)
+        page.on("red", act("SetLineColour", 10, CLEAR), act("SetFillColour", 10, CLEAR), *[action] * 256)
+        page.on("green", act("SetLineColour", 10, YELLOW), act("DrawLine", 10, 0, 0, 200, 150)), page.on("yellow", act("Clear", 10))
+        yield page.case("drawings-wasted-" + name, "A drawing that paints nothing counts among the 256; an action that changes nothing does not", "red green yellow green")
+
+
 def far_ends():
     page = Page(log=False)
     page.scene.art(10, 24, 32, 240, 160, OrigRefFillColour=GREY, OrigLineWidth=0)
@@ -140,5 +152,5 @@ def far_ends():
 
 
 def cases():
-    for family in (lines, unwritten, colours, recoloured, strokes, drawn_rectangles, drawings_kept, as_many_as_there_may_be, far_ends):
+    for family in (lines, unwritten, colours, recoloured, strokes, drawn_rectangles, drawings_kept, as_many_as_there_may_be, that_paint_nothing, far_ends):
         yield from family()

@@ -63,6 +63,22 @@ def of_each_group():
                     "tick:1000 red tick:500 green tick:1000 green tick:1000 red tick:1500 tick:1000 tick:1000 tick:2000")
 
 
+def over_scenes():
+    """Timers that are set and not due when their scene goes: the next scene has none of them, also where it is the same one."""
+    for way in ("other", "itself", "launched"):
+        page = a_clock(stays=True)
+        page.app.variable(900, "")
+        page.app.words(901, 24, 240, 600, 32, "", TextWrapping=True, Shared=True)
+        told = lambda word: [act("Append", ref("a", 900), word + "."), act("SetData", ref("a", 901), held(ref("a", 900)))]
+        other = page.group("t")
+        for group in (page.scene, other):
+            group.link(0, "TimerFired", told("own")), group.link(ref("a", 0), "TimerFired", told("app")), group.link(ref("s", 0), "TimerFired", told("s")), group.link(0, "IsRunning", told(group.path))
+        other.link(0, "UserInput", [act("SetTimer", 0, 1, 1500), act("SetTimer", 0, 5, 500)], 101), other.link(0, "UserInput", [act("TransitionTo", ref("s", 0))], 100)
+        page.on("green", act("SetTimer", 0, 1, 1000), act("SetTimer", 0, 2, 2000), act("SetTimer", ref("a", 0), 1, 1500), act("SetTimer", ref("a", 0), 2, 3000))
+        page.on("red", act("TransitionTo", ref("t", 0)) if way == "other" else act("TransitionTo", 0) if way == "itself" else act("Launch", ref("a", 0)))
+        yield page.case("over-scenes-" + way, "The timers of what is left go with it, those of the application stay over a transition", "green tick:500 red tick:1000 green tick:1000 red tick:500 green tick:700 red tick:3000")
+
+
 def order():
     page = a_clock()
     page.on("red", act("SetTimer", 0, 3, 1000), act("SetTimer", 0, 1, 1000), act("SetTimer", ref("a", 0), 2, 1000), act("SetTimer", 0, 2, 900), act("SetTimer", ref("a", 0), 1, 1000),
@@ -97,5 +113,5 @@ def held_values():
 
 
 def cases():
-    for family in (relative, to_the_moment, absolute, of_each_group, order, set_while_firing, far, held_values):
+    for family in (relative, to_the_moment, absolute, of_each_group, over_scenes, order, set_while_firing, far, held_values):
         yield from family()

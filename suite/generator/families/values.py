@@ -36,6 +36,7 @@ def arithmetic():
 
 WRITTEN = {"digits": ["0", "7", "007", "2147483647", "2147483648", "-2147483648", "-2147483649", "99999999999999999999"],
            "signs": ["-0", "-7", "+5", "-", "", "--3", "-+3", "3-"],
+           "leading-noughts": ["0" * count + "7" for count in (10, 38, 39, 40, 41, 60)] + ["-" + "0" * 45 + "12", "0" * 38 + "2147483648"],
            "others": [" 5", "5 ", "5.0", "0x10", "a", "1a", "1 2", "/", ":", "9:", "0/"]}
 
 
@@ -84,7 +85,7 @@ def a_long_text():
     count = act("Call", 14, 13, Raw("( :GOctetString :IndirectRef 10 :GInteger :IndirectRef 12 )"))
     page.on("red", *[act("Append", 10, held(10)) for _ in range(13)], count)      # 65,536 would be one too many
     page.on("green", *[act("Append", 11, held(10)) for _ in range(2)], act("Append", 10, held(11)), count)
-    page.on("yellow", act("SetVariable", 11, typed("1234567")), *[act("Append", 11, held(11)) for _ in range(0)], count)
+    page.on("yellow", act("SetVariable", 11, typed("1234567")), act("Append", 10, held(11)), count)
     page.scene.variable(15, "1" * 65535), page.scene.variable(16, "1" * 65536)
     for key, source in (("1", 15), ("2", 16)):
         page.on(key, act("SetVariable", 10, typed("?")), act("SetVariable", 10, Raw(":GOctetString :IndirectRef %d" % source)), count)
