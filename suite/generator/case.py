@@ -71,7 +71,7 @@ class Case:
             found.add("files")
         if "exact" in self.facts or "program" in self.facts:
             found.add("program")
-        if "refused" in self.facts or "verdict" in self.facts:
+        if self.facts.get("refused") or "verdict" in self.facts or self.family.name == "refused":
             found.add("tools")
         return [level for level in LEVELS if level in found and level != "keys"]
 

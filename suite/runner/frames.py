@@ -76,5 +76,5 @@ def is_same(ours, theirs, report):
         return True
     if report is None or not report.as_seen:
         return False
-    ours, theirs = ([report.alike.get(cell[0], cell[0])] + list(cell[1:]) for cell in (seen(ours), seen(theirs)))
-    return ours == theirs
+    as_class = lambda cell: (report.alike.get(cell[0], cell[0]),) + cell[1:]
+    return seen(as_class(ours)) == seen(as_class(theirs))

@@ -39,7 +39,7 @@ def write_images(outcome, folder, redlook):
     wanted = outcome.case.wanted.frames[outcome.frame] if outcome.frame < len(outcome.case.wanted.frames) else {}
     for name, frame in (("wanted", wanted), ("actual", outcome.actual.frames[outcome.frame])):
         base = os.path.join(folder, "%s-%d-%s" % (outcome.case.id.replace("/", "-"), outcome.frame + 1, name))
-        text = "".join(line + "\n" for line in ["frame 1"] + whole(frame))
+        text = "".join(line + "\n" for line in ["frame 1"] + whole(frame) + ["total 0"])
         with open(base + ".report", "w", encoding="utf-8") as file:
             file.write(text)
         made.append(base + ".report")

@@ -2,7 +2,7 @@
 import importlib
 
 NAMES = ["calibration", "states", "links", "keys", "values", "indirect", "visibles", "overlap", "shapes", "layout", "fields", "buttons", "tokens", "lists",
-         "timers", "streams", "content", "scenes", "late", "lock", "programs", "stuck", "queue", "names", "notation", "refused"]
+         "timers", "streams", "content", "scenes", "late", "lock", "programs", "stuck", "queue", "names", "notation", "refused", "verdicts"]
 
 
 def families(only=None):

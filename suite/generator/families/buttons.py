@@ -32,7 +32,7 @@ def pressed():
 
 def inside():
     actions = {"stop": act("Stop", 10), "unload": act("Unload", 10), "deselect": act("Deselect", 10), "end": act("SetInteractionStatus", 10, False),
-               "begin": act("SetInteractionStatus", 10, True), "field": act("SetInteractionStatus", 11, True), "label": act("SetLabel", 10, "new")}
+               "field": act("SetInteractionStatus", 11, True), "label": act("SetLabel", 10, "new")}
     for name, action in actions.items():
         page = a_button()
         page.scene.field(11, 24, 64, 120, 16, "5", BackgroundColour=RED), page.watch(11)

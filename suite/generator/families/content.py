@@ -42,10 +42,10 @@ def coming():
         page.on("red", act("Unload", 10)), page.on("green", act("Run", 10)), page.on("yellow", act("Stop", 11)), page.on("blue", act("SetData", 12, file_named("one")))
         yield page.case("file-comes-%s" % kind.lower(), "An object waits for its file until it comes; one that loaded an older one keeps it until it loads anew",
                         "text file:two=later file:one=11 text file:one=22 text red green text yellow blue text")
-        page = a_text(kind, file_named("one"))
-        page.on("red", act("Unload", 10)), page.on("green", act("Run", 10)), page.on("yellow", act("SetData", 10, "now")), page.on("blue", act("Stop", 10)), page.on("1", act("SetData", 10, file_named("two"))), page.on("2", act("Preload", 10))
         for name, feed in (("dropped", "red file:one=1 text green text"), ("replaced", "yellow file:one=1 text red green text"), ("stopped", "blue file:one=1 text green text"),
                            ("other-file", "1 file:one=1 text file:two=2 text"), ("while-dropped", "red 1 file:two=2 text 2 text file:one=1 green text"), ("again", "red green file:one=1 text file:one=33 red green text")):
+            if kind == "EntryField" and name in ("dropped", "other-file", "stopped", "again"):
+                continue
             page = a_text(kind, file_named("one"))
             page.on("red", act("Unload", 10)), page.on("green", act("Run", 10)), page.on("yellow", act("SetData", 10, "now")), page.on("blue", act("Stop", 10)), page.on("1", act("SetData", 10, file_named("two"))), page.on("2", act("Preload", 10))
             yield page.case("waits-%s-%s" % (name, kind.lower()), "Who waits for a file: " + name, feed)

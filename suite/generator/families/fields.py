@@ -23,14 +23,23 @@ TYPED = {"at-the-end": "1 2 3", "left": "left 7 8 left left left 9 5", "past-the
 def typing():
     for full in (None, 3, 4, 1, 255):
         for name, feed in TYPED.items():
-            if full in (1, 255) and name not in ("at-the-end", "left"):
+            if full in (1, 4, 255) and name not in ("at-the-end", "left"):
                 continue
             page = a_field(**({} if full is None else {"MaxLength": full}))
             yield page.case("typed-%s-of-%s" % (name, full or "any"), "Digits go in at the entry point while there are fewer octets than MaxLength; Left and Right move it within the text", feed + " select text")
 
 
+def longest():
+    """Without MaxLength a field has at most 255 octets."""
+    for length in (253, 255):
+        page = Page()
+        page.scene.field(10, 24, 32, 600, 96, "5" * length, BackgroundColour=BLUE, TextWrapping=True)
+        page.scene.link(0, "IsRunning", [act("SetInteractionStatus", 10, True)]), page.watch(10), page.ask(10)
+        yield page.case("longest-%d" % length, "Without MaxLength a field takes digits up to 255 octets", "1 2 3 left 7 cancel text")
+
+
 def overwriting():
-    for full in (None, 2, 3):
+    for full in (None, 3):
         for name in ("at-the-end", "left", "between"):
             page = a_field("123", **({} if full is None else {"MaxLength": full}))
             page.scene.link(0, "IsRunning", [act("SetOverwriteMode", 10, True)])
@@ -46,7 +55,7 @@ def mode_changes():
 
 
 def entry_points():
-    for point in (-1, 0, 1, 4, 5, 6, 2147483647):
+    for point in (-1, 0, 1, 5, 6):
         page = Page()
         page.scene.field(10, 24, 32, 240, 16, "12345", BackgroundColour=BLUE), page.scene.variable(30, point)
         page.on("red", act("SetEntryPoint", 10, point)), page.on("green", act("SetInteractionStatus", 10, True)), page.on("yellow", act("SetEntryPoint", 10, 2))
@@ -57,7 +66,7 @@ def entry_points():
 
 def contents():
     for content in (None, "", "abc", "123456", b"a\x1bcb", "x y"):
-        for full in (None, 3):
+        for full in (None, 3) if content in (None, "123456") else (None,):
             page = a_field(content, **({} if full is None else {"MaxLength": full}))
             page.on("red", act("SetData", 10, "9876")), page.on("green", act("SetInteractionStatus", 10, True)), page.ask(10)
             name = {None: "none", "": "empty"}.get(content, content if isinstance(content, str) else "escape").replace(" ", "-")
@@ -79,7 +88,7 @@ def ended_inside():
     """Actions during an interaction, put by a stream event, a timer or another link."""
     actions = {"stop": act("Stop", 10), "unload": act("Unload", 10), "set-data": act("SetData", 10, "44"), "status-false": act("SetInteractionStatus", 10, False),
                "status-true": act("SetInteractionStatus", 10, True), "other": act("SetInteractionStatus", 11, True), "entry-point": act("SetEntryPoint", 10, 0),
-               "preload": act("Preload", 10), "run": act("Run", 10), "highlight": act("SetHighlightStatus", 10, True)}
+               "highlight": act("SetHighlightStatus", 10, True)}
     for name, action in actions.items():
         page = Page()
         page.scene.field(10, 24, 32, 240, 16, "12", BackgroundColour=BLUE, MaxLength=4), page.scene.button(11, 24, 64, 120, 16, "push", BackgroundColour=BLUE)
@@ -126,5 +135,5 @@ def asked_while_typing():
 
 
 def cases():
-    for family in (typing, overwriting, mode_changes, entry_points, contents, ends, ended_inside, refused, highlighted, asked_while_typing):
+    for family in (typing, longest, overwriting, mode_changes, entry_points, contents, ends, ended_inside, refused, highlighted, asked_while_typing):
         yield from family()

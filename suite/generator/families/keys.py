@@ -14,7 +14,7 @@ def shown_keys(page):
 
 
 def registers():
-    for register in (None, 3, 4, 5, 0, 1, 2, 6, -3, 2147483647):
+    for register in (None, 3, 4, 5, 0, 2, 6, -3):
         page = Page(**({} if register is None else {"InputEventReg": register}))
         feed = shown_keys(page)
         page.log(0, "UserInput", "*")

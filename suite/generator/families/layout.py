@@ -23,8 +23,7 @@ WRAPPED = ["one two three four five six", "abcdefghijklmnopqrstuvwxyzabcdef", "a
 def wrapping():
     rule = "With wrapping a paragraph is cut at the last space that has at least one and at most W characters of the line before it, else behind W characters"
     for columns in (1, 2, 3, 5, 7, 10, 12):
-        for part, contents in (("a", WRAPPED[:4]), ("b", WRAPPED[4:])):
-            yield shown("wrapped-%d-%s" % (columns, part), rule, contents, 12 * columns, 64, TextWrapping=True)
+        yield shown("wrapped-at-%d" % columns, rule, WRAPPED, 12 * columns, 80, TextWrapping=True)
 
 
 def cut_off():
@@ -53,7 +52,7 @@ def paragraphs():
 
 
 def narrow():
-    for w in (0, 1, 11, 12, 13, 23, 24, 25):
+    for w in (0, 1, 12, 13, 24, 25):
         for wraps in (False, True):
             page = Page(log=False)
             page.scene.words(10, 24, 32, w, 160, "ab cd\ref", TextWrapping=wraps, BackgroundColour=BLUE)

@@ -47,7 +47,7 @@ def first_items():
 
 def inserted():
     for wraps in (False, True):
-        for items, cells in ((3, 3), (0, 2), (4, 2)):
+        for items, cells in ((3, 3),) if wraps else ((3, 3), (0, 2), (4, 2)):
             page = a_list(items, cells, WrapAround=wraps)
             new = 11 + items
             page.on("red", act("AddItem", 20, 1, new)), page.on("green", act("AddItem", 20, items + 1, new + 1)), page.on("yellow", act("AddItem", 20, 2, new + 2))
@@ -65,7 +65,7 @@ def inserted():
 
 def deleted():
     for wraps in (False, True):
-        for first in (1, 2, 4):
+        for first in (2,) if wraps else (1, 2, 4):
             page = a_list(4, 2, WrapAround=wraps)
             page.on("red", act("SetFirstItem", 20, first))
             for key, member in (("1", 11), ("2", 12), ("3", 13), ("4", 14), ("5", 15)):
@@ -95,7 +95,7 @@ def selecting():
 
 def running():
     for items, cells in ((0, 2), (1, 2), (2, 2), (3, 2), (3, 0)):
-        for wraps in (False, True):
+        for wraps in (False, True) if items == 3 else (False,):
             page = a_list(items, cells, WrapAround=wraps, InitiallyActive=False)
             page.on("red", act("Run", 20)), page.on("green", act("Stop", 20)), page.on("yellow", act("SetFirstItem", 20, 2)), page.on("blue", act("Unload", 20))
             yield page.case("run-%d-in-%d%s" % (items, cells, "-wrapping" if wraps else ""), "What a list tells when it runs, and what it does not tell when it stops", "text red text green text yellow text red text blue text red")

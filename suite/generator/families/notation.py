@@ -79,6 +79,18 @@ def twins():
             yield Case("binary-" + case.id.replace("/", "-"), case.rule, " ".join(step.word + ("" if step.captured else ",") for step in case.steps), service, case.files, case.late, lenient=case.lenient)
 
 
+def bounds():
+    """The least and the largest value of each attribute that has them."""
+    page = Page(log=False, SceneCS=(720, 576), InputEventReg=-2147483648)
+    page.scene.rectangle(9, 12, 16, 600, 200, RED)
+    page.scene.rectangle(10, 24, 32, 0, 16, GREEN, line=BLUE), page.scene.rectangle(11, 60, 32, 24, 0, GREEN, line=BLUE, width=0), page.scene.rectangle(12, 96, 32, 0, 0, GREEN, width=2147483647)
+    page.scene.rectangle(13, -2147483648, 2147483647, 2147483647, 2147483647, GREEN), page.scene.words(14, 24, 64, 0, 16, "none"), page.scene.art(15, 60, 64, 24, 0, OrigLineWidth=0)
+    page.scene.field(16, 24, 96, 120, 16, "1", MaxLength=1), page.scene.field(17, 24, 128, 120, 16, "255", MaxLength=255), page.scene.button(18, 24, 160, 0, 0, "x")
+    page.on("red", *[act("SetBoxSize", number, 24, 16) for number in (10, 11, 12, 14, 15, 18)]), page.on("green", act("SetInteractionStatus", 16, True)), page.on("yellow", act("SetInteractionStatus", 17, True))
+    page.ask(10, 12, 13, 16)
+    yield from both(page, "bounds", "The least and the largest values that attributes may have", "red text green 2 select yellow 6 select")
+
+
 def mixed():
     page = Page()
     page.scene.rectangle(10, 24, 32, 24, 32, RED), page.on("red", act("SetPosition", 10, 240, 32))
@@ -88,5 +100,5 @@ def mixed():
 
 
 def cases():
-    for family in (spaced, sized, binary, twins, mixed):
+    for family in (spaced, sized, binary, twins, bounds, mixed):
         yield from family()

@@ -107,23 +107,25 @@ def called():
 
 def unknown():
     """A receiver that plays what the verifier refuses (V9): such a call does nothing."""
-    for name in ("gsl", "GSL ", "GS", "GSLX", "", "XYZ"):
-        page = a_page(name)
-        page.watch(11)
-        page.on("red", act("SetVariable", 11, typed(True)), act("Call", 10, 11, words("abc", (INTEGER, 13))), act("TestVariable", 11, 1, typed(True)), *answers(page, 13))
-        page.on("green", act("Fork", 10, 11, words("abc", (INTEGER, 13))), *page.noted("behind"))
-        yield page.case("unknown-" + ({"": "empty", "GSL ": "space", "gsl": "small"}.get(name, name.lower())), "A call of a program that there is none of does nothing (V9)", "red green", lenient=True)
+    page = a_page("GSL")
+    page.watch(11)
+    for key, name in enumerate(("gsl", "GSL ", "GS", "GSLX", "", "XYZ", "GSL"), 1):
+        page.scene.add("ResidentPrg", 20 + key, Name=name)
+        page.on(str(key), act("SetVariable", 11, typed(True)), act("SetVariable", 13, typed(-9)), act("Call", 20 + key, 11, words("abc", (INTEGER, 13))), act("TestVariable", 11, 1, typed(True)), *answers(page, 13),
+                act("Fork", 20 + key, 11, words("abcd", (INTEGER, 13))), *answers(page, 13))
+        page.log(20 + key, "AsyncStopped", "stopped")
+    yield page.case("unknown", "A call of a program that there is none of does nothing (V9); a name in another case is another name", "1 2 3 4 5 6 7", lenient=True)
 
 
 def misfit():
-    wrong = {"fewer": words("abc"), "more": words("abc", (INTEGER, 13), (INTEGER, 13)), "kind": words(5, (INTEGER, 13)), "answer-kind": words("abc", (TEXT, 12)), "answer-written": words("abc", 5), "none": Raw("( )"),
-             "boolean": Raw("( :GBoolean true :GInteger :IndirectRef 13 )"), "variable-kind": Raw("( :GOctetString :IndirectRef 13 :GInteger :IndirectRef 13 )"), "answer-variable": Raw("( :GOctetString 'abc' :GInteger :IndirectRef 12 )")}
-    for name, arguments in wrong.items():
-        page = a_page("GSL")
-        page.watch(11)
-        page.on("red", act("SetVariable", 11, typed(True)), act("Call", 10, 11, arguments), act("TestVariable", 11, 1, typed(True)), *answers(page, 12, 13))
-        page.on("green", act("Fork", 10, 11, arguments), *page.noted("behind"))
-        yield page.case("misfit-" + name, "A call that does not fit the program's parameters does nothing (V9 or V3)", "red green", lenient=True)
+    wrong = [words("abc"), words("abc", (INTEGER, 13), (INTEGER, 13)), words(5, (INTEGER, 13)), words("abc", (TEXT, 12)), words("abc", 5), Raw("( )"), Raw("( :GBoolean true :GInteger :IndirectRef 13 )"),
+             Raw("( :GOctetString :IndirectRef 13 :GInteger :IndirectRef 13 )"), Raw("( :GOctetString 'abc' :GInteger :IndirectRef 12 )")]
+    page = a_page("GSL")
+    page.watch(11)
+    for key, arguments in enumerate(wrong, 1):
+        page.on(str(key), act("SetVariable", 11, typed(True)), act("Call", 10, 11, arguments), act("TestVariable", 11, 1, typed(True)), *answers(page, 12, 13), act("Fork", 10, 11, arguments))
+    yield page.case("misfit", "A call whose arguments are not those of the program does nothing (V9): fewer, more, of another kind, an answer that is written", "1 2 3 4 5 6", lenient=True)
+    yield page.case("misfit-kinds", "A call whose arguments are not those of the program does nothing (V9, V3): values and variables of another kind", "7 8 9", lenient=True)
 
 
 def cases():

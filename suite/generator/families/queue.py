@@ -24,7 +24,7 @@ def order():
 
 
 def full():
-    for count in (255, 256, 257, 300):
+    for count in (256, 257):
         page = a_page()
         yield page.case("full-%d" % count, "256 inputs wait at most; one more is refused", " ".join(["+red"] * count) + " run blue red blue", program=True)
     page = a_page()
@@ -40,8 +40,7 @@ def ticks():
     yield page.case("tick-range", "A tick is of 1 to 60,000 milliseconds", "green yellow tick:0 tick:60001 tick:60000 tick:1", program=True)
     page = a_page()
     page.log(0, "TimerFired", "1", 1), page.log(0, "TimerFired", "2", 2), page.on("green", act("SetTimer", 0, 1, 47295)), page.on("yellow", act("SetTimer", 0, 2, 1))
-    yield page.case("last-moment", "No tick leads past the last moment, 4,294,967,295 milliseconds", "tick:60000*71582, green tick:47296 tick:47295 yellow tick:1 tick:60000", program=True)
-    yield page.case("last-moment-waiting", "The ticks that wait count for the last moment", "tick:60000*71581, green +tick:60000 +tick:47295 +tick:1 run yellow tick:1", program=True)
+    yield page.case("last-moment", "No tick leads past the last moment, 4,294,967,295 milliseconds; the ticks that wait count", "tick:60000*71581, green +tick:60000 +tick:47296 +tick:47295 +tick:1 run yellow tick:1 tick:60000", program=True)
 
 
 def over_groups():
@@ -56,19 +55,19 @@ def over_groups():
 
 
 def files():
-    for count in (1023, 1024, 1025):
+    for count in (1024, 1025):
         page = a_page()
         page.scene.words(40, 24, 64, 240, 16, file_named("f0")), page.scene.words(41, 24, 96, 240, 16, file_named("last")), page.scene.words(42, 24, 128, 240, 16, file_named("f%d" % (count - 2)))
         feed = " ".join("file:f%d=x%d," % (number, number) for number in range(count - 1)) + " file:last=end file:f0=again file:more=1"
         page.on("green", act("SetData", 40, file_named("f0"))), page.on("yellow", act("SetData", 41, file_named("last")), act("SetData", 42, file_named("more")))
         yield page.case("files-%d" % count, "At most 1,024 files can be there; a name that is there already is none more", feed + " green yellow", program=True)
-    for ahead in (1021, 1022, 1023):
+    for ahead in (1021, 1022):
         page = a_page()
         for place in range(1, 5):
             page.scene.words(40 + place, 24, 64 + 32 * place, 240, 16, file_named("g%d" % place))
         page.scene.words(50, 24, 240, 240, 16, file_named("f5"))
         feed = " ".join("file:f%d=x%d," % (number, number) for number in range(ahead))
-        page.on("green", act("SetData", 50, file_named("f5")))
+        page.on("green", act("SetData", 50, file_named("f5")), act("SetData", 41, file_named("g1")), act("SetData", 42, file_named("g2")))
         yield page.case("files-waiting-%d" % ahead, "Names that wait in the queue are counted, each once; one that is there or waits may come again",
                         feed + " +file:g1=a +file:g2=c +file:g1=b +file:g3=d +file:f5=new +file:g2=e run green file:g3=1 file:g4=2 file:g1=again", program=True)
 

@@ -142,6 +142,26 @@ def revived():
         yield travel.case("revived-" + what, "An object that is run again while its scene is left goes with it: it neither interacts nor is seen", "red 1 2 red 3 select red 4 red")
 
 
+def launched_anew():
+    """All that waits goes when the application is launched anew: events, timers, the interaction, texts that wait for files."""
+    page = Page(log=False)
+    app, scene = page.app, page.scene
+    app.fields["OnStartUp"] = []
+    app.variable(900, ""), app.words(901, 0, 384, 720, 96, "", TextWrapping=True)
+    noted = lambda word: [act("Append", ref("a", 900), word + "."), act("SetData", ref("a", 901), held(ref("a", 900)))]
+    app.rectangle(10, 24, 32, 24, 32, RED), app.field(11, 24, 96, 120, 16, "1", BackgroundColour=BLUE), app.words(12, 24, 128, 120, 16, Raw(':ContentRef ("~/late")'))
+    for source, word in ((10, "ten"), (0, "app"), (ref("s", 10), "scene-ten")):
+        app.link(source, "StreamEvent", noted(word), Shared=True)
+    app.link(0, "TimerFired", noted("timer"), Shared=True), app.link(11, "InteractionCompleted", noted("done"), Shared=True), app.link(12, "ContentAvailable", noted("file"), Shared=True)
+    app.link(0, "EngineEvent", [act("TransitionTo", ref("s", 0))], 1), app.link(0, "EngineEvent", [act("Launch", 0)], 2, Shared=True)
+    sends = [act("SendEvent", 0, source, Raw("StreamEvent"), 1) for source in (10, 0)] + [act("SetTimer", 0, 1, 1000), act("SetInteractionStatus", 11, True)]
+    app.link(0, "EngineEvent", sends + [act("Launch", 0)], 3, Shared=True), app.link(0, "EngineEvent", sends, 4, Shared=True), app.link(0, "EngineEvent", sends + [act("TransitionTo", ref("s", 0))], 5, Shared=True)
+    scene.rectangle(10, 240, 32, 24, 32, GREEN), scene.link(0, "UserInput", noted("key"))
+    scene.link(ref("a", 0), "EngineEvent", [act("SendEvent", 0, 10, Raw("StreamEvent"), 1), act("SendEvent", 0, ref("a", 10), Raw("StreamEvent"), 1), act("SetTimer", 0, 1, 1000), act("Launch", ref("a", 0))], 6)
+    for name, feed in (("waiting", "engine:3 7 tick:2000 engine:4 8 select tick:2000"), ("from-a-scene", "engine:1 red engine:6 tick:2000 engine:1 tick:2000 7"), ("interaction", "engine:4 7 engine:2 8 engine:1 9 select"), ("over-a-scene", "engine:5 7 select tick:2000"), ("file", "engine:2 file:late=words engine:2"), ("file-in-a-scene", "engine:1 file:late=words engine:2")):
+        yield page.case("launched-anew-" + name, "Launch of the active application: nothing that waited is left, and all begins as it is written", feed)
+
+
 def applications():
     for way in ("launch", "quit"):
         page = Page()
@@ -178,5 +198,5 @@ def closing_application():
 
 
 def cases():
-    for family in (closing, kept, stack_over, again, only_one, started, waiting_events, interaction_over, revived, applications, closing_application):
+    for family in (closing, kept, stack_over, again, only_one, started, waiting_events, interaction_over, revived, launched_anew, applications, closing_application):
         yield from family()

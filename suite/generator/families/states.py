@@ -32,7 +32,7 @@ def object_of(page, kind, number=10, **fields):
 CLASSES = ["Rectangle", "DynamicLineArt", "Text", "EntryField", "PushButton", "Stream", "ListGroup", "TokenGroup"]
 ACTIONS = {"red": "Run", "green": "Stop", "yellow": "Preload", "blue": "Unload"}
 WAYS = {"red-first": "red red text green green text red text", "yellow-first": "yellow yellow text red text green text yellow",
-        "blue-between": "yellow blue blue text red blue text red text", "green-first": "green text blue text yellow green text red"}
+        "blue-between": "green blue text yellow blue blue text red blue text red text"}
 
 
 def each_class():
@@ -50,13 +50,20 @@ def each_class():
 
 
 def initially():
-    for kind in CLASSES:
+    for written in (None, True, False):
+        page = Page()
+        for place, kind in enumerate(CLASSES[:6]):
+            object_of(page, kind, 20 + place, **({} if written is None else {"InitiallyActive": written}))
+        numbers = range(20, 26)
+        page.watch(*numbers), page.ask(*numbers)
+        page.on("red", *[act("Run", number) for number in numbers]), page.on("green", *[act("Stop", number) for number in numbers])
+        yield page.case("initially-%s" % {None: "unwritten", True: "active", False: "not-active"}[written], "What runs when its scene is entered, in Items order", "text green text red")
+    for kind in CLASSES[6:]:
         page = Page()
         object_of(page, kind)
-        page.watch(10), page.ask(10)
+        page.watch(10, 11, 12), page.ask(10)
         page.on("red", act("Run", 10)), page.on("green", act("Stop", 10))
-        yield page.case(kind.lower() + "-initially", "A %s without InitiallyActive runs when its scene is entered" % kind,
-                        "text green text red")
+        yield page.case(kind.lower() + "-initially", "A %s runs when its scene is entered" % kind, "text green text red")
 
 
 def again_between():

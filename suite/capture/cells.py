@@ -1,0 +1,52 @@
+"""Cells of a picture: the points of a cell, and its two colours with the points that have the one that is rarer."""
+
+WIDTH, HEIGHT, COLUMNS, ROWS = 12, 16, 60, 36
+
+
+def points(picture, column, row, shift):
+    """The 192 points of a cell, row by row; what lies off the picture is black."""
+    left, top = column * WIDTH + shift[0], row * HEIGHT + shift[1]
+    found = []
+    for y in range(top, top + HEIGHT):
+        line = picture.rows[y] if 0 <= y < picture.height else b""
+        if 0 <= left and left + WIDTH <= picture.width and line:
+            part = line[3 * left:3 * (left + WIDTH)]
+            found += zip(part[::3], part[1::3], part[2::3])
+        else:
+            found += [tuple(line[3 * x:3 * x + 3]) if line and 0 <= x < picture.width else (0, 0, 0) for x in range(left, left + WIDTH)]
+    return found
+
+
+def mean(some):
+    count = len(some) or 1
+    return tuple(sum(point[channel] for point in some) / count for channel in range(3))
+
+
+def distance(one, other):
+    return sum((a - b) * (a - b) for a, b in zip(one, other))
+
+
+def spread(some):
+    """How far the points of a cell are from one another: the largest of the three channels."""
+    return max(max(channel) - min(channel) for channel in zip(*some))
+
+
+def parted(some):
+    """Two colours of a cell, and for each point whether it is nearer to the second, as bits of a number; the first is more frequent."""
+    channel = max(range(3), key=lambda which: max(point[which] for point in some) - min(point[which] for point in some))
+    low, high = min(some, key=lambda point: point[channel]), max(some, key=lambda point: point[channel])
+    for _ in range(3):
+        sides = [distance(point, high) < distance(point, low) for point in some]
+        near = [point for point, side in zip(some, sides) if not side]
+        far = [point for point, side in zip(some, sides) if side]
+        low, high = mean(near or [low]), mean(far or [high])
+    if len(far) > len(near):
+        low, high, sides = high, low, [not side for side in sides]
+    return low, high, sum(1 << at for at, side in enumerate(sides) if side)
+
+
+def in_luma(colour):
+    """Brightness and the two differences of colour."""
+    red, green, blue = colour
+    luma = 0.299 * red + 0.587 * green + 0.114 * blue
+    return luma, 0.564 * (blue - luma), 0.713 * (red - luma)

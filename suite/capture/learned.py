@@ -1,0 +1,97 @@
+"""What is learned from a capture of the calibration page: where the picture lies, how noisy it is, its colours and its glyphs."""
+from .cells import COLUMNS, ROWS, distance, in_luma, mean, parted, points, spread
+
+SHIFTS = [(x, y) for x in range(-3, 4) for y in range(-3, 4)]
+LEAST_SPREAD = 40       # a cell whose points are nearer to one another than this, and than the noise allows, has one colour
+
+
+class Learned:
+    """`page` is the wanted frame of the calibration page, cell by cell: lists of (character, fore, back)."""
+
+    def __init__(self, picture, page):
+        self.page, self.shift = page, (0, 0)
+        self.patches = [(column, row) for row in range(ROWS) for column in range(COLUMNS) if page[row][column][0] == " "]
+        self.shift = min(SHIFTS, key=lambda shift: self.unrest(picture, shift))
+        blank = [points(picture, column, row, self.shift) for column, row in self.edge_patches()]
+        self.limit = max(LEAST_SPREAD, 1.5 * max(spread(one) for one in blank))
+        self.colours = self.learn_colours(picture)
+        self.mixing = self.learn_mixing(picture)
+        self.glyphs, self.alike = self.learn_glyphs(picture)
+
+    def edge_patches(self):
+        """Cells of one colour beside cells of another, which a shift would mix."""
+        return [(column, row) for column, row in self.patches if self.page[row][column][2] != "000000"]
+
+    def unrest(self, picture, shift):
+        return sum(spread(points(picture, column, row, shift)) for column, row in self.edge_patches())
+
+    def learn_colours(self, picture):
+        """The captured colour of each colour of the page, as a background."""
+        seen = {"000000": [points(picture, column, 0, self.shift) for column in range(4)]}
+        for column, row in self.edge_patches():
+            seen.setdefault(self.page[row][column][2], []).append(points(picture, column, row, self.shift))
+        return {name: mean([point for one in cells for point in one]) for name, cells in seen.items()}
+
+    def letters(self):
+        return [(column, row) for row in range(ROWS) for column in range(COLUMNS) if self.page[row][column][0] != " "]
+
+    def learn_mixing(self, picture):
+        """How much of the background's colour, brightness aside, comes into that of thin strokes: 4:2:0 mixes them."""
+        above = below = 0.0
+        for column, row in self.letters():
+            _, fore, back = self.page[row][column]
+            if fore not in self.colours or back not in self.colours or fore == back:
+                continue
+            some = points(picture, column, row, self.shift)
+            if spread(some) < self.limit:
+                continue
+            low, high, _ = parted(some)
+            if distance(low, self.colours[fore]) < distance(low, self.colours[back]):
+                low, high = high, low
+            got, true, behind = in_luma(high), in_luma(self.colours[fore]), in_luma(self.colours[back])
+            for part in (1, 2):
+                above += (got[part] - true[part]) * (behind[part] - true[part])
+                below += (behind[part] - true[part]) ** 2
+        return min(0.9, max(0.0, above / below)) if below else 0.0
+
+    def learn_glyphs(self, picture):
+        """The points of each character; those that look alike stand for the first of them."""
+        glyphs, alike = {}, {}
+        for column, row in self.letters():
+            character, fore, back = self.page[row][column]
+            if fore != "ffffff" or back != "000000" or character in alike:
+                continue
+            some = points(picture, column, row, self.shift)
+            bits = parted(some)[2] if spread(some) >= self.limit else 0
+            if bits and distance(mean([point for at, point in enumerate(some) if bits >> at & 1]), self.colours["ffffff"]) > distance(mean(some), self.colours["ffffff"]):
+                bits ^= (1 << 192) - 1
+            same = next((known for known, shape in glyphs.items() if (shape ^ bits).bit_count() <= 2), None if bits else " ")
+            if same is None:
+                glyphs[character] = bits
+            alike[character] = same or character
+        return glyphs, alike
+
+    def back_of(self, colour):
+        return min(self.colours, key=lambda name: distance(self.colours[name], colour))
+
+    def fore_of(self, colour, back):
+        """The colour of a character before this background, with what is mixed into it."""
+        got, behind = in_luma(colour), in_luma(self.colours[back])
+
+        def error(name):
+            true = in_luma(self.colours[name])
+            mixed = [(1 - self.mixing) * true[part] + self.mixing * behind[part] for part in (1, 2)]
+            return (true[0] - got[0]) ** 2 + (mixed[0] - got[1]) ** 2 + (mixed[1] - got[2]) ** 2
+        return min((name for name in self.colours if name != back), key=error)
+
+    def cell(self, some):
+        """What a cell shows: a character, its colour, and the colour behind it."""
+        if spread(some) < self.limit:
+            return " ", "000000", self.back_of(mean(some))
+        low, high, bits = parted(some)
+        full = (1 << 192) - 1
+        best = min(((shape ^ seen).bit_count(), turned, character) for character, shape in self.glyphs.items() for turned, seen in ((False, bits), (True, bits ^ full)))
+        if best[1]:
+            low, high = high, low
+        back = self.back_of(low)
+        return best[2], self.fore_of(high, back), back
