@@ -1,4 +1,6 @@
 """Entry fields: what keys do to their text, and how an interaction begins and ends."""
+import random
+
 from ..family import Family
 from ..page import Page
 from ..words import BLUE, Raw, act, held, ref
@@ -36,6 +38,17 @@ def longest():
         page.scene.field(10, 24, 32, 600, 96, "5" * length, BackgroundColour=BLUE, TextWrapping=True)
         page.scene.link(0, "IsRunning", [act("SetInteractionStatus", 10, True)]), page.watch(10), page.ask(10)
         yield page.case("longest-%d" % length, "Without MaxLength a field takes digits up to 255 octets", "1 2 3 left 7 cancel text")
+
+
+def by_lot():
+    """Keys and changes drawn by lot, while the field interacts."""
+    for number in range(1, 5):
+        lot = random.Random(number)
+        page = a_field("123"[:lot.randint(0, 3)], MaxLength=lot.choice([3, 4, 6, 255]))
+        page.scene.link(0, "IsRunning", [act("SetOverwriteMode", 10, lot.choice([True, False]))])
+        page.on("red", act("SetInteractionStatus", 10, True)), page.on("green", act("SetEntryPoint", 10, lot.randint(0, 4)), act("SetInteractionStatus", 10, True)), page.on("yellow", act("SetData", 10, "98"), act("SetInteractionStatus", 10, True)), page.ask(10)
+        keys = [lot.choice(["1", "2", "left", "left", "right", "7", "8", "left", "9"]) for _ in range(12)]
+        yield page.case("by-lot-%d" % number, "Keys of a field, one after another", " ".join(keys[:7]) + " select text green " + " ".join(keys[7:]) + " cancel text yellow 5 select text red 6 select text")
 
 
 def overwriting():
@@ -135,5 +148,5 @@ def asked_while_typing():
 
 
 def cases():
-    for family in (typing, longest, overwriting, mode_changes, entry_points, contents, ends, ended_inside, refused, highlighted, asked_while_typing):
+    for family in (typing, longest, by_lot, overwriting, mode_changes, entry_points, contents, ends, ended_inside, refused, highlighted, asked_while_typing):
         yield from family()

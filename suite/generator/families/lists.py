@@ -1,4 +1,6 @@
 """Lists: what a list shows in which cells, what it tells of that, and what follows from each action."""
+import random
+
 from ..family import Family
 from ..page import Page
 from ..words import BLUE, GREEN, RED, WHITE, YELLOW, Raw, act, held
@@ -141,6 +143,21 @@ def twice():
     yield page.case("two-lists", "An item of two lists stands where the one that changed last put it, and runs as the last one says", "red green yellow blue red")
 
 
+def by_lot():
+    """Many changes of a list, drawn by lot; the number of the case is that of the lot."""
+    for number in range(1, 7):
+        lot = random.Random(number)
+        items, cells = lot.randint(2, 6), lot.randint(1, 4)
+        page = a_list(items, cells, WrapAround=lot.choice([True, False]), MultipleSelection=lot.choice([True, False]))
+        member, place = lambda: lot.randint(11, 13 + items), lambda: lot.randint(0, items + 2)
+        changes = [lambda: act("ScrollItems", 20, lot.randint(-4, 4)), lambda: act("SetFirstItem", 20, place()), lambda: act("AddItem", 20, place(), member()), lambda: act("DelItem", 20, member()),
+                   lambda: act("SelectItem", 20, place()), lambda: act("ToggleItem", 20, place()), lambda: act("DeselectItem", 20, place()), lambda: act(lot.choice(["Stop", "Run"]), 20), lambda: act("Stop", member())]
+        keys = ["red", "green", "yellow", "blue", "1", "2", "3", "4", "5", "6"]
+        for key in keys:
+            page.on(key, *[lot.choice(changes)() for _ in range(2)])
+        yield page.case("by-lot-%d" % number, "Many changes of a list, one after another", " ".join("%s, text" % key if turn % 2 else key for turn, key in enumerate(keys + [lot.choice(keys) for _ in range(6)])))
+
+
 def as_large():
     for count in (255, 256):
         page = Page()
@@ -154,5 +171,5 @@ def as_large():
 
 
 def cases():
-    for family in (scrolling, first_items, inserted, deleted, selecting, running, asked, of_all_classes, twice, as_large):
+    for family in (scrolling, first_items, inserted, deleted, selecting, running, asked, of_all_classes, twice, by_lot, as_large):
         yield from family()

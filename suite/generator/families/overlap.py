@@ -25,7 +25,10 @@ class Lot:
         return self.random.choice(choices)
 
     def corner(self):
-        return self.random.randint(-40, 12 * self.wide), self.random.randint(-40, 16 * self.high)
+        """Half of all on the screen, the others anywhere about it."""
+        if self.of([True, False]):
+            return self.random.randint(0, 12 * self.wide), self.random.randint(0, 16 * self.high)
+        return self.random.randint(-240, 700), self.random.randint(-200, 560)
 
     def size(self):
         return self.random.choice([0, 11, 12, 24, 36, 60, 96, 150, 260, 720]), self.random.choice([0, 15, 16, 32, 48, 64, 100, 180, 576])

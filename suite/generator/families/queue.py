@@ -39,7 +39,8 @@ def ticks():
     page.on("green", act("SetTimer", 0, 1, 59999)), page.on("yellow", act("SetTimer", 0, 2, 60001)), page.log(0, "TimerFired", "1", 1), page.log(0, "TimerFired", "2", 2)
     yield page.case("tick-range", "A tick is of 1 to 60,000 milliseconds", "green yellow tick:0 tick:60001 tick:60000 tick:1", program=True)
     page = a_page()
-    page.log(0, "TimerFired", "1", 1), page.log(0, "TimerFired", "2", 2), page.on("green", act("SetTimer", 0, 1, 47295)), page.on("yellow", act("SetTimer", 0, 2, 1))
+    page.log(0, "TimerFired", "1", 1), page.log(0, "TimerFired", "2", 2), page.on("green", act("SetTimer", 0, 1, 107295), act("SetTimer", 0, 3, 107296)), page.on("yellow", act("SetTimer", 0, 2, 1))
+    page.log(0, "TimerFired", "3", 3)
     yield page.case("last-moment", "No tick leads past the last moment, 4,294,967,295 milliseconds; the ticks that wait count", "tick:60000*71581, green +tick:60000 +tick:47296 +tick:47295 +tick:1 run yellow tick:1 tick:60000", program=True)
 
 

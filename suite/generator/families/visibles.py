@@ -44,6 +44,23 @@ def far_away():
     yield page.case("far-away", "A box may stand anywhere in 32 bits; what lies off the screen is not seen", "red text green text yellow blue text 1 2 3 text green text red")
 
 
+def over_each_side():
+    """Boxes of which a part lies off the screen: an edge that is off the screen is not seen at the screen's side."""
+    for kind in ("Rectangle", "DynamicLineArt", "Text"):
+        page = Page(log=False)
+        if kind == "Rectangle":
+            page.scene.rectangle(10, 240, 192, 144, 112, RED, line=WHITE)
+        elif kind == "Text":
+            page.scene.words(10, 240, 192, 144, 112, "one two three four five six seven eight nine ten eleven twelve", TextWrapping=True, BackgroundColour=BLUE)
+        else:
+            page.scene.art(10, 240, 192, 144, 112, OrigRefFillColour=BLUE, OrigRefLineColour=WHITE)
+            page.on("0", act("SetFillColour", 10, RED), act("DrawRectangle", 10, 12, 16, 132, 96), act("DrawLine", 10, 0, 0, 144, 112))
+        for key, x, y in (("1", -60, 192), ("2", 240, -48), ("3", 640, 192), ("4", 240, 520), ("5", -60, -48), ("6", 640, 520), ("7", -132, 192), ("8", 240, -96)):
+            page.on(key, act("SetPosition", 10, x, y))
+        page.on("9", act("SetPosition", 10, -12, -16), act("SetBoxSize", 10, 744, 608))
+        yield page.case("over-each-side-" + kind.lower(), "Of a box that lies over a side of the screen that part is seen that lies on it: a " + kind, ("0 " if kind == "DynamicLineArt" else "") + "1 2 3 4 5 6 7 8 9")
+
+
 def moved():
     page = Page(log=False)
     page.scene.rectangle(10, 24, 32, 36, 48, RED), page.scene.words(11, 120, 32, 96, 16, "text"), page.scene.field(12, 240, 32, 96, 16, "field")
@@ -114,5 +131,5 @@ def hides():
 
 
 def cases():
-    for family in (covered, sized, far_away, moved, ordered, not_on_the_stack, on_top, hides):
+    for family in (covered, sized, far_away, over_each_side, moved, ordered, not_on_the_stack, on_top, hides):
         yield from family()
