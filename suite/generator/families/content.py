@@ -18,7 +18,7 @@ def a_text(kind="Text", content=None, **fields):
 
 def included():
     for kind in ("Text", "EntryField"):
-        for content in (None, "", "words"):
+        for content in (None, "", "words") if kind == "Text" else (None, "words"):
             page = a_text(kind, content, InitiallyActive=False)
             page.on("red", act("Preload", 10)), page.on("green", act("Run", 10)), page.on("yellow", act("SetData", 10, "other")), page.on("blue", act("Unload", 10)), page.on("1", act("SetData", 10, ""))
             name = {None: "none", "": "empty", "words": "words"}[content]

@@ -23,9 +23,9 @@ TYPED = {"at-the-end": "1 2 3", "left": "left 7 8 left left left 9 5", "past-the
 
 
 def typing():
-    for full in (None, 3, 4, 1, 255):
+    for full in (None, 3, 1):
         for name, feed in TYPED.items():
-            if full in (1, 4, 255) and name not in ("at-the-end", "left"):
+            if full == 1 and name not in ("at-the-end", "left"):
                 continue
             page = a_field(**({} if full is None else {"MaxLength": full}))
             yield page.case("typed-%s-of-%s" % (name, full or "any"), "Digits go in at the entry point while there are fewer octets than MaxLength; Left and Right move it within the text", feed + " select text")
@@ -78,7 +78,7 @@ def entry_points():
 
 
 def contents():
-    for content in (None, "", "abc", "123456", b"a\x1bcb", "x y"):
+    for content in (None, "", "123456", b"a\x1bcb"):
         for full in (None, 3) if content in (None, "123456") else (None,):
             page = a_field(content, **({} if full is None else {"MaxLength": full}))
             page.on("red", act("SetData", 10, "9876")), page.on("green", act("SetInteractionStatus", 10, True)), page.ask(10)

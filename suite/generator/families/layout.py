@@ -22,12 +22,12 @@ WRAPPED = ["one two three four five six", "abcdefghijklmnopqrstuvwxyzabcdef", "a
 
 def wrapping():
     rule = "With wrapping a paragraph is cut at the last space that has at least one and at most W characters of the line before it, else behind W characters"
-    for columns in (1, 2, 3, 5, 7, 10, 12):
+    for columns in (1, 2, 3, 5, 7, 10):
         yield shown("wrapped-at-%d" % columns, rule, WRAPPED, 12 * columns, 80, TextWrapping=True)
 
 
 def cut_off():
-    for columns in (1, 3, 10):
+    for columns in (1, 10):
         yield shown("cut-at-%d" % columns, "Without wrapping a paragraph is one line, cut off at the last column", WRAPPED[:6], 12 * columns, 16)
 
 
@@ -58,13 +58,13 @@ def narrow():
             page.scene.words(10, 24, 32, w, 160, "ab cd\ref", TextWrapping=wraps, BackgroundColour=BLUE)
             page.scene.words(11, 125, 32, w, 160, "ab cd\ref", TextWrapping=wraps, BackgroundColour=RED)
             page.on("red", act("SetBoxSize", 10, 36, 100), act("SetBoxSize", 11, 35, 33)), page.on("green", act("SetPosition", 10, 13, 17)), page.on("yellow", act("SetBoxSize", 10, w, 100))
-            if wraps and w not in (0, 1, 12, 24):
+            if wraps and w not in (0, 1, 24):
                 continue
             yield page.case("wide-%d%s" % (w, "-wrapped" if wraps else ""), "The number of columns is that of the cells that the box covers", "red green yellow")
 
 
 def overflowing():
-    for h in (0, 1, 16, 17, 33):
+    for h in (0, 1, 17, 33):
         yield shown("high-%d" % h, "The first line stands in the first row that the box covers; what comes below the last is not seen", ["one\rtwo\rthree\rfour\rfive", "one two three four five six seven"], 96, h, TextWrapping=True)
 
 

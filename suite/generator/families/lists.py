@@ -26,7 +26,7 @@ def a_list(items, cells, shown=3, **fields):
 
 def scrolling():
     for wraps in (False, True):
-        for items, cells in ((5, 3), (2, 3), (3, 3), (4, 1)):
+        for items, cells in ((5, 3), (2, 3), (4, 1)):
             page = a_list(items, cells, WrapAround=wraps)
             page.on("red", act("ScrollItems", 20, 1))
             page.on("green", act("ScrollItems", 20, -1))
@@ -96,7 +96,7 @@ def selecting():
 
 
 def running():
-    for items, cells in ((0, 2), (1, 2), (2, 2), (3, 2), (3, 0)):
+    for items, cells in ((0, 2), (1, 2), (3, 2), (3, 0)):
         for wraps in (False, True) if items == 3 else (False,):
             page = a_list(items, cells, WrapAround=wraps, InitiallyActive=False)
             page.on("red", act("Run", 20)), page.on("green", act("Stop", 20)), page.on("yellow", act("SetFirstItem", 20, 2)), page.on("blue", act("Unload", 20))

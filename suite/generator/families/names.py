@@ -20,7 +20,7 @@ def led_by(name, written, path, sound=True):
 
 
 def resolved():
-    for number, (written, path) in enumerate((("~/s", "s"), ("DSM:/s", "s"), ("/s", "s"), ("s", "s"), ("~s", "s"), ("DSM:s", "s"), ("////s", "s"), ("~/dir/s", "dir/s"), ("dir/s", "dir/s"),
+    for number, (written, path) in enumerate((("~/s", "s"), ("DSM:/s", "s"), ("/s", "s"), ("s", "s"), ("~s", "s"), ("DSM:s", "s"), ("~/dir/s", "dir/s"), ("dir/s", "dir/s"),
                                               ("DSM:~/s", "~/s"), ("~/~/s", "~/s"), ("~/DSM:/s", "DSM:/s"), ("dsm:/s", "dsm:/s"), ("~/a b", "a b"), ("~/.s", ".s"), ("~/..s", "..s"), ("~/x/...y/z", "x/...y/z"))):
         yield led_by("group-%d" % (number + 1), written, path)
     long = "d" * 253

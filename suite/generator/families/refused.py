@@ -175,6 +175,12 @@ def of_services():
     for size, bad in ((1048576, False), (1048577, True)):
         yield Case("binary-file-of-%d" % size, "A group file has at most 1,048,576 octets", "red", scene(as_large(size)), {}, [], refused=bad)
         yield Case("text-file-of-%d" % size, "A group file has at most 1,048,576 octets", "red", scene(GOOD + b" " * (size - len(GOOD))), {}, [], refused=bad)
+    for size, bad in ((65535, False), (65536, True)):
+        yield Case("service-content-of-%d" % size, "A content file that a group names has at most 65,535 octets", "red", scene(GOOD.replace(b"'shown'", b':ContentRef ("x")')), {"x": b"y" * size}, [], refused=bad)
+    for count, bad in ((1024, False), (1025, True)):
+        texts = b"".join(b' {:ContentRefVar %d :OrigValue :ContentRef ("f%d") }\n' % (100 + number, number) for number in range(1000)) + b' {:Text 20 :OrigBoxSize 240 16 :OrigContent :ContentRef ("f1000") }\n'
+        more = b'{:Scene ("~/t" 0) :Items (' + b"".join(b' {:ContentRefVar %d :OrigValue :ContentRef ("f%d") }' % (number, number) for number in range(1001, count)) + b") }"
+        yield Case("service-contents-%d" % count, "At most 1,024 content files are named", "red", dict(scene(GOOD.replace(b"\n) }", b"\n" + texts + b") }")), t=more), {"f%d" % number: b"content %d" % number for number in range(count)}, [], refused=bad)
     for name, head in (("comment", b"// a comment\n"), ("spaces", b"\r\n\t "), ("comment-alone", b"//\n"), ("comments", b"//x\n//y\n  ")):
         yield Case("text-begins-with-" + name, "White space and comments may stand in front of a group", "red", {"a": head + START, "s": head + GOOD}, {}, [])
     for name, text in (("word", b"x" + GOOD), ("open-comment", b"// " + GOOD.replace(b"\n", b" ")), ("brackets", b"{ }"), ("empty", b"")):

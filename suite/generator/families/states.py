@@ -30,6 +30,7 @@ def object_of(page, kind, number=10, **fields):
 
 
 CLASSES = ["Rectangle", "DynamicLineArt", "Text", "EntryField", "PushButton", "Stream", "ListGroup", "TokenGroup"]
+ALIKE = ["Rectangle", "DynamicLineArt", "Stream", "PushButton", "EntryField"]    # where fewer ways through the states do
 ACTIONS = {"red": "Run", "green": "Stop", "yellow": "Preload", "blue": "Unload"}
 WAYS = {"red-first": "red red text green green text red text", "yellow-first": "yellow yellow text red text green text yellow",
         "blue-between": "green blue text yellow blue blue text red blue text red text"}
@@ -38,6 +39,8 @@ WAYS = {"red-first": "red red text green green text red text", "yellow-first": "
 def each_class():
     for kind in CLASSES:
         for way, feed in WAYS.items():
+            if way == "red-first" and kind in ALIKE or way == "yellow-first" and kind in ALIKE[:3]:
+                continue
             page = Page()
             object_of(page, kind, InitiallyActive=False)
             for key, action in ACTIONS.items():

@@ -6,8 +6,8 @@ from ..words import BLUE, CLEAR, GREEN, RED, WHITE, YELLOW, act, held
 FAMILY = Family("visibles", "Boxes, cells and the display stack", "The picture; The display stack; Actions 26 to 33", "Actions 26 to 33; attributes 13 and 14",
                 "ISO/IEC 13522-5, Visible class: OriginalBoxSize, Position, BringToFront to PutBehind; Application class: DisplayStack")
 
-CORNERS = [(0, 0), (1, 1), (11, 15), (12, 16), (-1, -1), (-12, -16), (-13, -17), (696, 352), (708, 560), (719, 575), (720, 576), (-24, 100)]
-SIZES = [(0, 0), (1, 1), (11, 15), (12, 16), (13, 17), (25, 33), (720, 16), (12, 576), (0, 16), (12, 0), (2147483647, 2147483647)]
+CORNERS = [(0, 0), (1, 1), (11, 15), (-1, -1), (-13, -17), (708, 560), (719, 575), (720, 576), (-24, 100)]
+SIZES = [(0, 0), (1, 1), (11, 15), (13, 17), (25, 33), (720, 16), (12, 576), (0, 16), (12, 0), (2147483647, 2147483647)]
 
 
 def covered():
@@ -102,6 +102,8 @@ def not_on_the_stack():
     ways = {"around": "red yellow green", "before": "red blue green", "behind": "red 1 green", "front": "red 2 green", "back": "red 3 green"}
     for prior, what in (("Unload", "not available"), ("Stop", "available and not running")):
         for name, feed in ways.items():
+            if prior == "Stop" and name in ("before", "back"):
+                continue
             page = Page(log=False)
             four_boxes(page)
             page.on("red", act(prior, 11)), page.on("green", act("Run", 11))
