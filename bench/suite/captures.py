@@ -97,8 +97,8 @@ def drawn(redlook, folder, out):
 
 def measure(redlook, folders, way, top):
     """The share of the cases whose frames are all read as they are wanted."""
-    captures, good, frames, began = os.path.join(top, "captures"), 0, 0, 0.0
-    adapter = [os.path.join(SUITE, "adapters", "capture"), captures]
+    captures, good, frames, seconds = os.path.join(top, "captures"), 0, 0, 0.0
+    adapter = [sys.executable, os.path.join(SUITE, "adapters", "capture"), captures]
     options = {"halved_colour" if name == "halved" else name: value for name, value in way.items()}
     wrong = []
     for folder in folders:
@@ -111,10 +111,10 @@ def measure(redlook, folders, way, top):
             frames += 1
         moment = time.time()
         outcome = judged(case, played(adapter, folder, "text"))
-        began += time.time() - moment
+        seconds += time.time() - moment
         good += outcome.why is None
         wrong += [] if outcome.why is None else ["%s: %s" % (case.id, outcome.why)]
-    return good, frames, began, wrong
+    return good, frames, seconds, wrong
 
 
 def main():
@@ -124,12 +124,8 @@ def main():
         return 2
     every = int(words[words.index("--every") + 1]) if "--every" in words else 20
     with tempfile.TemporaryDirectory() as top:
-        folders = []
-        for family in families():
-            wanted = read_family(family.name)
-            cases = [case for case in family.cases if case.level() not in ("tools", "program")]
-            folders += [write_case(case, os.path.join(top, "cases"), wanted.get(case.id, Wanted())) for case in cases[every // 4::every] or cases[:1]]
-        folders.sort(key=lambda folder: "calibration" not in folder)
+        cases = [case for family in families() for case in family.cases if case.level() not in ("tools", "program")]
+        folders = [write_case(case, os.path.join(top, "cases"), read_family(case.family.name).get(case.id, Wanted())) for case in cases[::every]]
         for name, way in WAYS.items():
             good, frames, seconds, wrong = measure(words[0], folders, way, top)
             print("%-40s %3d of %3d cases, %d frames, %.1f s a frame" % (name, good, len(folders), frames, seconds / max(1, frames)), flush=True)
