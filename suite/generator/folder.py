@@ -8,7 +8,7 @@ from .binary import encoded
 def facts_of(case):
     """What `case.json` says."""
     facts = {"id": case.id, "rule": case.rule, "documents": case.family.documents(), "level": case.level(), "needs": case.needs(),
-             "start": "a", "lenient": case.lenient, "refused": bool(case.facts.get("refused")), "room": 200, "events": case.events()}
+             "start": "a", "lenient": case.lenient, "refused": bool(case.facts.get("refused")), "room": 200, "undone": case.family.undone, "events": case.events()}
     for name in ("date", "exact", "verdict"):
         if name in case.facts:
             facts[name] = case.facts[name]

@@ -1,5 +1,5 @@
 """A group: an application or a scene with its items, and the text of its file."""
-from .words import Raw, effect, ref, value
+from .words import KEYS, Raw, effect, ref, value
 
 
 class Group:
@@ -7,7 +7,7 @@ class Group:
 
     def __init__(self, path, kind="Scene", **fields):
         self.path, self.kind, self.fields = path, kind, fields
-        self.items, self.classes, self.next_link = [], {}, 300
+        self.items, self.classes, self.next_link, self.keyed = [], {}, 300, {}
 
     def add(self, kind, number, **fields):
         self.classes[number] = kind
@@ -16,13 +16,16 @@ class Group:
         return number
 
     def link(self, source, event, actions, data=None, number=None, **fields):
-        """A link from an event to actions; data only where it is given."""
-        if number is None:
+        """A link from an event to actions; data only where it is given. One that waits for a key goes with the cases that press it."""
+        own = number is None
+        if own:
             number, self.next_link = self.next_link, self.next_link + 1
         heard = {} if data is None else {"EventData": data}
         source = source if isinstance(source, Raw) else Raw(str(source))
-        return self.add("Link", number, EventSource=source, EventType=Raw(event), **heard,
-                        LinkEffect=effect(actions), **fields)
+        self.add("Link", number, EventSource=source, EventType=Raw(event), **heard, LinkEffect=effect(actions), **fields)
+        if own and event == "UserInput" and data in KEYS.values():
+            self.keyed[self.items[-1]] = data
+        return number
 
     def rectangle(self, number, x, y, w, h, fill, line=None, width=None, **fields):
         if line is not None:
@@ -71,7 +74,9 @@ class Group:
     def refers(self, number, reference):
         return self.add("ObjectRefVar", number, OrigValue=Raw(str(reference)))
 
-    def text(self):
+    def text(self, keys=KEYS.values()):
+        """The text of the file, for a case that presses these keys."""
         written = "".join(" :%s %s\n" % (name, value(given)) for name, given in self.fields.items())
-        items = " :Items (\n%s )\n" % "".join("  %s\n" % item for item in self.items) if self.items else ""
+        items = [item for item in self.items if self.keyed.get(item, None) is None or self.keyed[item] in keys]
+        items = " :Items (\n%s )\n" % "".join("  %s\n" % item for item in items) if items else ""
         return '{:%s %s\n%s%s}\n' % (self.kind, ref(self.path, 0), written, items)

@@ -85,4 +85,6 @@ class Page:
     def case(self, name, rule, feed, **facts):
         """The case: its rule in a sentence, what is fed, and what is captured (`case.Case`)."""
         groups = self._assembled()
-        return Case(name, rule, feed, {group.path: group.text().encode() for group in groups}, self.files, self.late, **facts)
+        keys = {KEYS.get(word.strip("+,")) for word in feed.split()}
+        service = {group.path: group.text(keys).encode() for group in groups}
+        return Case(name, rule, feed, service, self.files, self.late, **facts)

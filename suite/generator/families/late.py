@@ -32,9 +32,9 @@ def cases():
     for name, feed in WAYS.items():
         yield a_page().case(name, "A transition to a late scene waits for its file, in the place of one that waited before; the work goes on", feed)
     page = a_page()
-    groups = {group.path: group.text() for group in page._assembled()}
-    same = groups["t"].replace(" :Items", "\n// another way to write it\n:Items   ").encode().hex()
-    other = groups["t"].replace("scene t", "scene x").encode().hex()
+    group = page.case("", "", "red").service["t"]
+    same = group.replace(b" :Items", b"\n// another way to write it\n:Items   ").hex()
+    other = group.replace(b"scene t", b"scene x").hex()
     yield page.case("written-otherwise", "The file of a late scene is the service's group, in whatever way it is written", "red scene:t=%s" % same)
     yield page.case("another-group", "Another group than the service's is refused: the transition still waits", "red scene:t=%s scene:t" % other)
     page = Page(stays=True)

@@ -74,9 +74,9 @@ def over_scenes():
         for group in (page.scene, other):
             group.link(0, "TimerFired", told("own")), group.link(ref("a", 0), "TimerFired", told("app")), group.link(ref("s", 0), "TimerFired", told("s")), group.link(0, "IsRunning", told(group.path))
         other.link(0, "UserInput", [act("SetTimer", 0, 1, 1500), act("SetTimer", 0, 5, 500)], 101), other.link(0, "UserInput", [act("TransitionTo", ref("s", 0))], 100)
-        page.on("green", act("SetTimer", 0, 1, 1000), act("SetTimer", 0, 2, 2000), act("SetTimer", ref("a", 0), 1, 1500), act("SetTimer", ref("a", 0), 2, 3000))
+        page.on("green", act("SetTimer", 0, 1, 1000), act("SetTimer", 0, 2, 2000), act("SetTimer", ref("a", 0), 1, 1500), act("SetTimer", ref("a", 0), 2, 3400))
         page.on("red", act("TransitionTo", ref("t", 0)) if way == "other" else act("TransitionTo", 0) if way == "itself" else act("Launch", ref("a", 0)))
-        yield page.case("over-scenes-" + way, "The timers of what is left go with it, those of the application stay over a transition", "green tick:500 red tick:1000 green tick:1000 red tick:500 green tick:700 red tick:3000")
+        yield page.case("over-scenes-" + way, "The timers of what is left go with it, those of the application stay over a transition", "green tick:500 red tick:1250 green tick:1250 red tick:700 green tick:650 red tick:3400")
 
 
 def order():
@@ -89,10 +89,10 @@ def order():
 
 def set_while_firing():
     page = a_clock()
-    page.scene.link(0, "TimerFired", [act("SetTimer", 0, 1, 500), act("SetTimer", 0, 2, 0)], 1)
+    page.scene.link(0, "TimerFired", [act("SetTimer", 0, 1, 900), act("SetTimer", 0, 2, 0)], 1)
     page.scene.link(0, "TimerFired", [act("SetTimer", 0, 3)], 2)
     page.on("red", act("SetTimer", 0, 1, 1000), act("SetTimer", 0, 3, 4000)), page.on("green", act("SetTimer", 0, 3, 1000), act("SetTimer", 0, 2, 1000))
-    yield page.case("set-while-firing", "What is set by a timer that fires waits for a later tick; one that has fired cannot be cancelled", "red tick:3000 tick:400 tick:400 green tick:2000 tick:500")
+    yield page.case("set-while-firing", "What is set by a timer that fires waits for a later tick; one that has fired cannot be cancelled", "red tick:3000 tick:400 tick:900 green tick:1500 tick:500", exact=True)
 
 
 def far():
