@@ -26,17 +26,33 @@ def distance(one, other):
     return sum((a - b) * (a - b) for a, b in zip(one, other))
 
 
-def spread(some):
-    """How far the points of a cell are from one another: the largest of the three channels."""
-    return max(max(channel) - min(channel) for channel in zip(*some))
+def luma(point):
+    return 0.299 * point[0] + 0.587 * point[1] + 0.114 * point[2]
 
 
-def parted(some):
-    """Two colours of a cell, and for each point whether it is nearer to the second, as bits of a number; the first is more frequent."""
+def variance(values):
+    count = len(values)
+    return sum(value * value for value in values) / count - (sum(values) / count) ** 2
+
+
+def unrest(some):
+    """How much the points of a cell differ: in brightness, and in the channel that differs most."""
+    return variance([luma(point) for point in some]), max(variance(channel) for channel in zip(*some))
+
+
+def parted(some, by_luma=True):
+    """Two colours of a cell, and for each point whether it is nearer to the second, as bits of a number; the first is more frequent.
+
+    Points are told apart by their brightness, which 4:2:0 leaves alone, or by all of their colour.
+    """
+    axis = luma if by_luma else lambda point: point
+    apart = (lambda one, other: (one - other) ** 2) if by_luma else distance
     channel = max(range(3), key=lambda which: max(point[which] for point in some) - min(point[which] for point in some))
-    low, high = min(some, key=lambda point: point[channel]), max(some, key=lambda point: point[channel])
+    measure = luma if by_luma else lambda point: point[channel]
+    low, high = min(some, key=measure), max(some, key=measure)
     for _ in range(3):
-        sides = [distance(point, high) < distance(point, low) for point in some]
+        here, there = axis(low), axis(high)
+        sides = [apart(axis(point), there) < apart(axis(point), here) for point in some]
         near = [point for point, side in zip(some, sides) if not side]
         far = [point for point, side in zip(some, sides) if side]
         low, high = mean(near or [low]), mean(far or [high])
@@ -47,6 +63,5 @@ def parted(some):
 
 def in_luma(colour):
     """Brightness and the two differences of colour."""
-    red, green, blue = colour
-    luma = 0.299 * red + 0.587 * green + 0.114 * blue
-    return luma, 0.564 * (blue - luma), 0.713 * (red - luma)
+    bright = luma(colour)
+    return bright, 0.564 * (colour[2] - bright), 0.713 * (colour[0] - bright)

@@ -17,7 +17,7 @@ def rows_of(picture, learned):
 
 def is_black(picture, row, learned):
     top = row * 16 + learned.shift[1]
-    limit = learned.limit / 2 + max(learned.colours["000000"])
+    limit = learned.brightest_black + max(learned.colours["000000"])
     return all(max(picture.rows[y]) < limit for y in range(top, top + 16) if 0 <= y < picture.height)
 
 
