@@ -2,6 +2,8 @@ pub mod Words
 pub mod Sites
 pub mod Ears
 pub mod Described
+pub mod Touched
+pub mod Changes
 pub mod Trace
 pub mod Cover
 pub mod Run

@@ -42,9 +42,11 @@ use Rattle.mh_told.specs.Told.{did_line, fault_line, total_line}
 use Rattle.mh_trace.specs.declared.seen.Seen.{Seen}
 use Rattle.mh_trace.specs.declared.site.EffectKind.TheVariants as kind
 use Rattle.mh_trace.specs.declared.site.Site.{Site}
+use Rattle.mh_trace.specs.Changes.{notes}
 use Rattle.mh_trace.specs.Described.{described}
 use Rattle.mh_trace.specs.Ears.{ears, key_note, told}
 use Rattle.mh_trace.specs.Sites.{group_sites, heard_sites, same_site, slot_sites}
+use Rattle.mh_trace.specs.Touched.{restacks, touched}
 use Rattle.mh_trace.specs.Words.{input_text, item_text, ref_text, site_text, waiting_text}
 
 -- Where actions are written, as it is told behind their places: a list from places to texts
@@ -282,13 +284,16 @@ is_quiet (Some i) w begun put = is_quiet_item i put
 is_quiet None (Some w) begun put = is_quiet_waiting w begun put
 is_quiet None None begun put = true
 
--- what is looked at is as it was
-abbrev pub is_same : List ℕ → State → Bool
-is_same before t = bytes_eq before (described (length t.queue) t)
+-- what is looked at besides the objects is as it was
+abbrev pub is_same : Bool → List ℕ → State → Bool
+is_same stacks before t = bytes_eq before (described stacks (length t.queue) t)
 
-abbrev pub nothing_note : Bool → List ℕ → State → List ℕ
-nothing_note false before t = []
-nothing_note true before t = if is_same before t then codes "; nothing" else []
+abbrev pub nothing_note : Bool → List ℕ
+nothing_note b = if b then codes "; nothing" else []
+
+-- what has become of the objects that the step may change, and that nothing has come of it where nothing has
+unfoldable pub changes_text : List ℕ → Bool → List ℕ
+changes_text changes rests = changes ++ nothing_note (is_empty changes && rests)
 
 -- nothing comes of an entry that is no fault
 abbrev pub may_be_nothing : Stepped → Bool → Bool
@@ -298,12 +303,11 @@ abbrev pub fault_text : Stepped → List ℕ
 fault_text (answer.Faulted f) = fault_line f
 fault_text _ = []
 
--- whether a transition begins and what it drops, how many wait behind it of those that did, whether nothing may come of it,
--- what was looked at before, what the step answered, and the state behind it
-unfoldable pub outcome_text : Bool → ℕ → ℕ → Bool → List ℕ → Stepped → State → List ℕ
-outcome_text started dropped waited quiet before a t =
-    started_note started dropped ++ forgotten_note (waited - length t.queue) ++ nothing_note quiet before t ++ 10 ∷ []
-    ++ fault_text a
+-- whether a transition begins and what it drops, how many wait behind it of those that did, what has become of objects,
+-- whether nothing else has come of it, and what the step answered
+unfoldable pub outcome_text : Bool → ℕ → ℕ → List ℕ → Bool → Stepped → List ℕ
+outcome_text started dropped forgotten changes rests a =
+    started_note started dropped ++ forgotten_note forgotten ++ changes_text changes rests ++ 10 ∷ [] ++ fault_text a
 
 -- WHAT IS SEEN OF A STATE BEFORE ITS STEP, and what a step makes of it
 
@@ -315,14 +319,20 @@ seen_of i s ps = record {
   waiting = waiting_left i s;
   begun = is_begun s.transition;
   quiet = is_quiet i (first s) s.interaction (opened i s);
-  described = described (waiting_left i s) s;
+  stacks = restacks i;
+  described = described (restacks i) (waiting_left i s) s;
+  touched = touched i (first s) s;
   place = place_of i ps;
 }
+
+-- behind the step nothing but objects has changed, as far as it was seen, where it answered this
+abbrev pub has_rested : Seen → Stepped → State → Bool
+has_rested x a t = may_be_nothing a x.quiet && is_same x.stacks x.described t
 
 -- what is told behind the step, in this state, where it answered this
 abbrev pub settled_text : Seen → Stepped → State → List ℕ
 settled_text x a t =
-    outcome_text (starts x.begun t) x.dropped x.waiting (may_be_nothing a x.quiet) x.described a t
+    outcome_text (starts x.begun t) x.dropped (x.waiting - length t.queue) (notes x.touched (all t.objects)) (has_rested x a t) a
 
 -- what is traced behind the step, whether its entry was a fault being known
 abbrev pub noted : Option Item → Seen → Bool → Tracing → Tracing

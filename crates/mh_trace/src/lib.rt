@@ -6,6 +6,7 @@
 #![tactic(auto)]
 
 mod calls;
+mod changes;
 pub mod cover;
 mod described;
 mod directory;
@@ -13,6 +14,7 @@ mod ears;
 mod head;
 mod hearing;
 mod outcome;
+mod parts;
 mod pieces;
 mod places;
 mod quiet;
@@ -20,8 +22,10 @@ mod row;
 mod rows;
 pub mod run;
 mod seen;
+mod short;
 pub mod site;
 mod sites;
+mod touched;
 pub mod tracer;
 pub mod words;
 

@@ -2,6 +2,7 @@
 ghost use Rattle.std.specs.Prelude.{◌≡◌, ◌++◌, OnOk, IfOk};
 ghost use Rattle.mh_trace.specs.Trace as spec;
 
+use crate::changes::changes;
 use crate::described::described;
 use crate::seen::{Seen, is_fault, starts};
 use crate::words::put_input;
@@ -13,7 +14,6 @@ use std::alloc::{AllocError, Global};
 
 /// Puts the end of the line of a step behind which the machine is, where this was seen before it, and this was
 /// answered.
-#[tactic(auto, unfolding(crate::specs::Trace::outcome_text))]
 pub fn put_outcome(
     alloc: Global,
     text: &mut Text,
@@ -23,12 +23,72 @@ pub fn put_outcome(
 ) -> Result<(), AllocError>
     ensures { OnOk result (text.new ≡ text.old ++ spec.settled_text seen.now answer.now machine.now) }
 {
-    put_started(text, starts(seen.begun, machine), seen.dropped)?;
-    put_forgotten(text, seen.waiting.saturating_sub(machine.queue().len()))?;
-    let quiet = may_be_nothing(seen, answer);
-    put_nothing(alloc, text, quiet, seen.described.as_slice(), machine)?;
+    let changes = changes(alloc, seen.touched.as_slice(), machine.objects())?;
+    let rests = has_rested(alloc, seen, answer, machine)?;
+    let started = starts(seen.begun, machine);
+    let forgotten = seen.waiting.saturating_sub(machine.queue().len());
+    put_parts(
+        text,
+        started,
+        seen.dropped,
+        forgotten,
+        &changes,
+        rests,
+        answer,
+    )
+}
+
+#[tactic(auto, unfolding(crate::specs::Trace::outcome_text))]
+fn put_parts(
+    text: &mut Text,
+    started: bool,
+    dropped: usize,
+    forgotten: usize,
+    changes: &Text,
+    rests: bool,
+    answer: &Stepped,
+) -> Result<(), AllocError>
+    ensures { OnOk result (text.new
+        ≡ text.old ++ spec.outcome_text started dropped forgotten changes.now rests answer.now) }
+{
+    put_started(text, started, dropped)?;
+    put_forgotten(text, forgotten)?;
+    put_changes(text, changes, rests)?;
     text.put(b"\n")?;
     put_fault_line(text, answer)
+}
+
+#[tactic(auto, unfolding(crate::specs::Trace::changes_text))]
+fn put_changes(text: &mut Text, changes: &Text, rests: bool) -> Result<(), AllocError>
+    ensures { OnOk result (text.new ≡ text.old ++ spec.changes_text changes.now rests) }
+{
+    text.put(changes.as_slice())?;
+    put_nothing(text, changes.as_slice().is_empty() && rests)
+}
+
+fn put_nothing(text: &mut Text, is_nothing: bool) -> Result<(), AllocError>
+    ensures { OnOk result (text.new ≡ text.old ++ spec.nothing_note is_nothing) }
+{
+    if is_nothing {
+        text.put(b"; nothing")
+    } else {
+        Ok(())
+    }
+}
+
+/// Whether nothing but objects has changed, as far as it was seen.
+fn has_rested(
+    alloc: Global,
+    seen: &Seen,
+    answer: &Stepped,
+    machine: &Machine,
+) -> Result<bool, AllocError>
+    ensures { IfOk result (λ rests. rests ≡ spec.has_rested seen.now answer.now machine.now) }
+{
+    if !may_be_nothing(seen, answer) {
+        return Ok(false);
+    }
+    is_same(alloc, seen.stacks, seen.described.as_slice(), machine)
 }
 
 fn may_be_nothing(seen: &Seen, answer: &Stepped) -> bool
@@ -85,30 +145,16 @@ fn put_forgotten(text: &mut Text, count: usize) -> Result<(), AllocError>
     text.put(b" that waited")
 }
 
-fn put_nothing(
+/// Whether what is looked at besides objects is as it was.
+fn is_same(
     alloc: Global,
-    text: &mut Text,
-    quiet: bool,
+    stacks: bool,
     before: &[u8],
     machine: &Machine,
-) -> Result<(), AllocError>
-    ensures { OnOk result (text.new ≡ text.old ++ spec.nothing_note quiet before.now machine.now) }
+) -> Result<bool, AllocError>
+    ensures { IfOk result (λ same. same ≡ spec.is_same stacks before.now machine.now) }
 {
-    if !quiet {
-        return Ok(());
-    }
-    if is_same(alloc, before, machine)? {
-        text.put(b"; nothing")
-    } else {
-        Ok(())
-    }
-}
-
-/// Whether what is looked at is as it was.
-fn is_same(alloc: Global, before: &[u8], machine: &Machine) -> Result<bool, AllocError>
-    ensures { IfOk result (λ same. same ≡ spec.is_same before.now machine.now) }
-{
-    let behind = described(alloc, machine.queue().len(), machine)?;
+    let behind = described(alloc, stacks, machine.queue().len(), machine)?;
     Ok(before == behind.as_slice())
 }
 

@@ -15,11 +15,12 @@ use crate::ears::told;
 use crate::quiet::is_quiet;
 use crate::site::Site;
 use crate::sites::{heard_sites, push_close_down, push_start_up, slot_sites};
+use crate::touched::{restacks, touched};
 use mh_actions::arguments::{referred, values};
 use mh_base::{GroupName, Seq};
 use mh_group::ActionName;
 use mh_machine::{Machine, Stepped};
-use mh_model::{Act, Event, Item, Transition, Waiting};
+use mh_model::{Act, Event, Item, Object, Transition, Waiting};
 use mh_service::Service;
 use mh_store::Objects;
 use mh_told::text::Text;
@@ -40,8 +41,12 @@ pub struct Seen {
     pub begun: bool,
     /// Whether nothing comes of the step where nothing that is looked at changes.
     pub quiet: bool,
-    /// What is looked at.
+    /// Whether the entry may change the display stack beside an object that becomes available.
+    pub stacks: bool,
+    /// What is looked at besides objects.
     pub described: Text,
+    /// The objects that the step may change, as they are before it.
+    pub touched: Seq<Object>,
     /// Where the action stands that is done, if one is.
     pub place: Option<Site>,
 }
@@ -58,7 +63,9 @@ pub fn see(
     let opened = opened(alloc, front, machine)?;
     let closing = closing(alloc, front, machine)?;
     let waiting = waiting_left(front, machine);
-    let described = described(alloc, waiting, machine)?;
+    let stacks = restacks(front);
+    let described = described(alloc, stacks, waiting, machine)?;
+    let touched = touched(alloc, front, machine)?;
     let place = place_of(front, places)?;
     let quiet = is_quiet(
         front,
@@ -73,7 +80,9 @@ pub fn see(
         waiting,
         begun: is_begun(machine.transition()),
         quiet,
+        stacks,
         described,
+        touched,
         place,
     })
 }

@@ -56,8 +56,9 @@ pub fn put_integer(alloc: Global, text: &mut Text, number: i32) -> Result<(), Al
     text.put(digits.as_bytes())
 }
 
+/// Puts octets between quotation marks.
 #[tactic(auto, unfolding(crate::specs::Words::octets_text))]
-fn put_octets(text: &mut Text, octets: &[u8]) -> Result<(), AllocError>
+pub fn put_octets(text: &mut Text, octets: &[u8]) -> Result<(), AllocError>
     ensures { OnOk result (text.new ≡ text.old ++ spec.octets_text octets.now) }
 {
     text.put(b"'")?;
