@@ -1,6 +1,7 @@
 pub mod Words
 pub mod Sites
 pub mod Ears
+pub mod Listening
 pub mod Described
 pub mod Touched
 pub mod Changes

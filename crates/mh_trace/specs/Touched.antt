@@ -1,5 +1,5 @@
 -- Which objects an entry may change besides exchanging them all: what it is done to, and what receives its answers.
-use Rattle.std.specs.Prelude.{List, [], ◌∷◌, ◌++◌, Option, Some, None}
+use Rattle.std.specs.Prelude.{Bool, true, false, List, [], ◌∷◌, ◌++◌, Option, Some, None}
 use Rattle.std.specs.List.{flat_map}
 use Rattle.std.specs.Option.{option_to_list}
 use Rattle.mh_base.specs.declared.obj_ref.ObjRef.{ObjRef}
@@ -29,13 +29,17 @@ found_at_option os None = []
 found_at_option os (Some r) = found_at os r
 
 -- the variable that an argument may change: one that receives an answer, and where a program is called each that is passed
-abbrev pub filled_by : Sort → Argument → Option ObjRef
-filled_by s (argument.Receiver r) = Some r
-filled_by sort.Call (argument.Through r k) = Some r
-filled_by s x = None
+abbrev pub filled_through : Sort → ObjRef → Option ObjRef
+filled_through sort.Call r = Some r
+filled_through _ r = None
+
+abbrev pub filled_by : Argument → Sort → Option ObjRef
+filled_by (argument.Receiver r) s = Some r
+filled_by (argument.Through r k) s = filled_through s r
+filled_by (argument.Direct v) s = None
 
 abbrev pub filled_object : List Object → Sort → Argument → List Object
-filled_object os s x = found_at_option os (filled_by s x)
+filled_object os s x = found_at_option os (filled_by x s)
 
 -- what an action may change: what it is done to, and then what it fills
 abbrev pub act_touches : List Object → Act → List Object

@@ -1,10 +1,14 @@
 //! What a step lets links hear, and what each link that waits for it makes of it.
 ghost use Rattle.std.specs.Prelude.{◌≡◌, ◌++◌, [], None, Some, OnOk, IfOk};
+ghost use Rattle.std.specs.List.{flat_map};
 ghost use Rattle.std.specs.Option.{option_copied, option_map_or};
+ghost use Rattle.mh_model.specs.Service.{parts};
 ghost use Rattle.mh_model.specs.State.{all};
 ghost use Rattle.mh_trace.specs.Ears as spec;
+ghost use Rattle.mh_trace.specs.Listening.{IsIndexOf, at_place};
 
 use crate::hearing::{hears_data, waits, wanted};
+use crate::listening::{Listening, places};
 use crate::words::{put_integer, put_ref, put_value};
 use mh_base::{GroupName, ObjRef, Value};
 use mh_machine::{Machine, engine_event, key_event, register_of};
@@ -14,17 +18,20 @@ use mh_store::Objects;
 use mh_told::text::Text;
 use std::alloc::{AllocError, Global};
 
-/// Puts what each link that waits for the event makes of it, in the order of the objects.
+/// Puts what each link that waits for the event makes of it, in the order of the objects. `listening` is the index of
+/// their links.
 pub fn put_ears(
     alloc: Global,
     text: &mut Text,
     told: &Option<Event>,
     objects: &Objects,
+    listening: &Listening,
 ) -> Result<(), AllocError>
+    requires { IsIndexOf listening.now.entries (parts (all objects.now)) }
     ensures { OnOk result (text.new ≡ text.old ++ spec.ears told.now (all objects.now)) }
 {
     match told {
-        Some(event) => put_all_ears(alloc, text, event, objects),
+        Some(event) => put_all_ears(alloc, text, event, objects, listening),
         None => Ok(()),
     }
 }
@@ -34,11 +41,27 @@ fn put_all_ears(
     text: &mut Text,
     event: &Event,
     objects: &Objects,
+    listening: &Listening,
 ) -> Result<(), AllocError>
+    requires { IsIndexOf listening.now.entries (parts (all objects.now)) }
     ensures { OnOk result (text.new ≡ text.old ++ spec.ears (Some event.now) (all objects.now)) }
 {
-    for place in 0..objects.len() {
-        put_ear_at(alloc, text, event, objects.at(place))?;
+    let places = places(listening, event.source.number);
+    put_ears_at(alloc, text, event, objects, places)
+}
+
+fn put_ears_at(
+    alloc: Global,
+    text: &mut Text,
+    event: &Event,
+    objects: &Objects,
+    places: &[usize],
+) -> Result<(), AllocError>
+    ensures { OnOk result (text.new
+        ≡ text.old ++ flat_map (at_place (spec.ear event.now) (all objects.now)) places.now) }
+{
+    for place in places {
+        put_ear_at(alloc, text, event, objects.at(*place))?;
     }
     Ok(())
 }

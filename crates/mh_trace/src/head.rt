@@ -1,11 +1,14 @@
 //! The beginning of the line of a step: its number, its entry, and who hears what it tells.
 ghost use Rattle.std.specs.Prelude.{◌≡◌, ◌++◌, ◌+◌, ◌<◌, ◌^◌, OnOk, slice_get};
 ghost use Rattle.std.specs.Option.{option_copied};
+ghost use Rattle.mh_model.specs.Service.{parts};
 ghost use Rattle.mh_model.specs.State.{all};
+ghost use Rattle.mh_trace.specs.Listening.{IsIndexOf};
 ghost use Rattle.mh_trace.specs.Trace as spec;
 
 use crate::directory::put_written;
 use crate::ears::{put_ears, put_key_note, told};
+use crate::listening::Listening;
 use crate::seen::place_of;
 use crate::site::Site;
 use crate::words::{put_item, put_ref, put_site, put_waiting};
@@ -26,8 +29,10 @@ pub fn put_head(
     machine: &Machine,
     places: &[Site],
     directory: &[(Site, Text)],
+    listening: &Listening,
 ) -> Result<(), AllocError>
-    requires { machine.now.taken + 1 < 2 ^ 64 }
+    requires room { machine.now.taken + 1 < 2 ^ 64 }
+    requires index { IsIndexOf listening.now.entries (parts (all machine.now.objects)) }
     ensures { OnOk result (text.new
         ≡ text.old ++ spec.head_by directory.now front.now (spec.first machine.now) machine.now places.now) }
 {
@@ -38,7 +43,7 @@ pub fn put_head(
     put_through(text, front, machine.objects())?;
     put_keyed(alloc, text, front, waiting, machine)?;
     let told = told(front, waiting, machine)?;
-    put_ears(alloc, text, &told, machine.objects())
+    put_ears(alloc, text, &told, machine.objects(), listening)
 }
 
 #[tactic(auto, unfolding(crate::specs::Trace::number_text))]

@@ -13,6 +13,7 @@ mod directory;
 mod ears;
 mod head;
 mod hearing;
+mod listening;
 mod outcome;
 mod parts;
 mod pieces;

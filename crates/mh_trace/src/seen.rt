@@ -1,17 +1,20 @@
 //! What is seen of a state before its step.
 ghost use Rattle.std.specs.Prelude.{◌≡◌, ◌++◌, ◌&&◌, [], None, OnOk, IfOk, length, slice_get};
 ghost use Rattle.std.specs.Option.{option_copied};
+ghost use Rattle.mh_model.specs.Service.{parts};
 ghost use Rattle.mh_model.specs.State.{all};
 ghost use Rattle.mh_model.specs.Rules.{is_begun};
 ghost use Rattle.mh_group.specs.declared.attribute.Attribute.TheVariants as attribute;
 ghost use Rattle.mh_model.specs.Arguments as said;
 ghost use Rattle.mh_trace.specs.declared.site.EffectKind.TheVariants as kind;
 ghost use Rattle.mh_trace.specs.Ears as ears_spec;
+ghost use Rattle.mh_trace.specs.Listening.{IsIndexOf};
 ghost use Rattle.mh_trace.specs.Sites as sites_spec;
 ghost use Rattle.mh_trace.specs.Trace as spec;
 
 use crate::described::described;
 use crate::ears::told;
+use crate::listening::Listening;
 use crate::quiet::is_quiet;
 use crate::site::Site;
 use crate::sites::{heard_sites, push_close_down, push_start_up, slot_sites};
@@ -57,10 +60,12 @@ pub fn see(
     front: &Option<Item>,
     machine: &Machine,
     places: &[Site],
+    listening: &Listening,
 ) -> Result<Seen, AllocError>
+    requires { IsIndexOf listening.now.entries (parts (all machine.now.objects)) }
     ensures { IfOk result (λ seen. seen ≡ spec.seen_of front.now machine.now places.now) }
 {
-    let opened = opened(alloc, front, machine)?;
+    let opened = opened(alloc, front, machine, listening)?;
     let closing = closing(alloc, front, machine)?;
     let waiting = waiting_left(front, machine);
     let stacks = restacks(front);
@@ -146,12 +151,18 @@ fn first_of(places: &[Site]) -> Result<Option<Site>, AllocError>
 }
 
 /// Where the actions stand that a step puts, if it begins no transition.
-fn opened(alloc: Global, front: &Option<Item>, machine: &Machine) -> Result<Seq<Site>, AllocError>
+fn opened(
+    alloc: Global,
+    front: &Option<Item>,
+    machine: &Machine,
+    listening: &Listening,
+) -> Result<Seq<Site>, AllocError>
+    requires { IsIndexOf listening.now.entries (parts (all machine.now.objects)) }
     ensures { IfOk result (λ sites. sites ≡ spec.opened front.now machine.now) }
 {
     let sites = match front {
-        Some(item) => opened_by(alloc, item, machine)?,
-        None => told_sites(alloc, told_first(machine)?, machine.objects())?,
+        Some(item) => opened_by(alloc, item, machine, listening)?,
+        None => told_sites(alloc, told_first(machine)?, machine.objects(), listening)?,
     };
     Ok(Seq::from_vec(sites))
 }
@@ -162,13 +173,19 @@ fn told_first(machine: &Machine) -> Result<Option<Event>, AllocError>
     told(&None, machine.queue().first(), machine)
 }
 
-fn opened_by(alloc: Global, item: &Item, machine: &Machine) -> Result<Vec<Site>, AllocError>
+fn opened_by(
+    alloc: Global,
+    item: &Item,
+    machine: &Machine,
+    listening: &Listening,
+) -> Result<Vec<Site>, AllocError>
+    requires { IsIndexOf listening.now.entries (parts (all machine.now.objects)) }
     ensures { IfOk result (λ sites. sites.items ≡ spec.opened_by item.now machine.now) }
 {
     match item {
         Item::Act(act) => called_sites(alloc, act, machine.objects()),
         Item::Enter(group) => starting(alloc, machine.service(), group),
-        Item::Emit(event) => told_sites(alloc, heard_now(event)?, machine.objects()),
+        Item::Emit(event) => told_sites(alloc, heard_now(event)?, machine.objects(), listening),
         _ => Ok(Vec::new(alloc)),
     }
 }
@@ -197,11 +214,13 @@ fn told_sites(
     alloc: Global,
     told: Option<Event>,
     objects: &Objects,
+    listening: &Listening,
 ) -> Result<Vec<Site>, AllocError>
+    requires { IsIndexOf listening.now.entries (parts (all objects.now)) }
     ensures { IfOk result (λ sites. sites.items ≡ spec.told_sites told (all objects.now)) }
 {
     match told {
-        Some(event) => heard_sites(alloc, &event, objects),
+        Some(event) => heard_sites(alloc, &event, objects, listening),
         None => Ok(Vec::new(alloc)),
     }
 }

@@ -1,14 +1,18 @@
 //! The places of the actions that are put on the work list at once.
 ghost use Rattle.std.specs.Prelude.{◌≡◌, ◌++◌, [], OnOk, IfOk};
+ghost use Rattle.std.specs.List.{flat_map};
 ghost use Rattle.std.specs.Option.{option_copied, option_map_or};
 ghost use Rattle.mh_group.specs.declared.attribute.Attribute.TheVariants as attribute;
 ghost use Rattle.mh_model.specs.Property.{held, as_effect};
 ghost use Rattle.mh_model.specs.Items.{acts};
+ghost use Rattle.mh_model.specs.Service.{parts};
 ghost use Rattle.mh_model.specs.State.{all};
 ghost use Rattle.mh_model.specs.Tokens.{slot_items};
+ghost use Rattle.mh_trace.specs.Listening.{IsIndexOf, at_place};
 ghost use Rattle.mh_trace.specs.Sites as spec;
 
 use crate::hearing::hears;
+use crate::listening::{Listening, places};
 use crate::site::{EffectKind, Site};
 use mh_base::{GroupName, ObjRef, Value};
 use mh_group::Attribute;
@@ -44,13 +48,34 @@ fn place(object: &ObjRef, kind: EffectKind, number: usize) -> Result<Site, Alloc
     })
 }
 
-/// The places of the actions of all links that hear the event, in the order of the objects.
-pub fn heard_sites(alloc: Global, event: &Event, objects: &Objects) -> Result<Vec<Site>, AllocError>
+/// The places of the actions of all links that hear the event, in the order of the objects. `listening` is the index
+/// of their links.
+pub fn heard_sites(
+    alloc: Global,
+    event: &Event,
+    objects: &Objects,
+    listening: &Listening,
+) -> Result<Vec<Site>, AllocError>
+    requires { IsIndexOf listening.now.entries (parts (all objects.now)) }
     ensures { IfOk result (λ sites. sites.items ≡ spec.heard_sites event.now (all objects.now)) }
 {
+    let places = places(listening, event.source.number);
+    let sites = heard_sites_at(alloc, event, objects, places)?;
+    Ok(sites)
+}
+
+fn heard_sites_at(
+    alloc: Global,
+    event: &Event,
+    objects: &Objects,
+    places: &[usize],
+) -> Result<Vec<Site>, AllocError>
+    ensures { IfOk result (λ sites. sites.items
+        ≡ flat_map (at_place (spec.heard_at event.now) (all objects.now)) places.now) }
+{
     let mut sites = Vec::new(alloc);
-    for place in 0..objects.len() {
-        push_heard(&mut sites, event, objects.at(place))?;
+    for place in places {
+        push_heard(&mut sites, event, objects.at(*place))?;
     }
     Ok(sites)
 }

@@ -83,18 +83,18 @@ fn push_filled(
         ≡ found.old.items ++ flat_map (spec.filled_object (all objects.now) sort) arguments.now) }
 {
     for argument in arguments {
-        push_option(alloc, found, objects, filled_by(sort, argument))?;
+        push_option(alloc, found, objects, filled_by(argument, sort))?;
     }
     Ok(())
 }
 
 /// The variable that an argument may change.
-fn filled_by(sort: Sort, argument: &Argument) -> Option<&ObjRef>
-    ensures { option_copied result ≡ spec.filled_by sort argument.now }
+fn filled_by(argument: &Argument, sort: Sort) -> Option<&ObjRef>
+    ensures { option_copied result ≡ spec.filled_by argument.now sort }
 {
-    match (sort, argument) {
-        (_, Argument::Receiver(at)) => Some(at),
-        (Sort::Call, Argument::Through(at, _)) => Some(at),
+    match (argument, sort) {
+        (Argument::Receiver(at), _) => Some(at),
+        (Argument::Through(at, _), Sort::Call) => Some(at),
         _ => None,
     }
 }

@@ -1,12 +1,16 @@
 //! `Tracer`: a machine whose steps are told, a line each.
-ghost use Rattle.std.specs.Prelude.{◌≡◌, ◌++◌, ◌+◌, ◌<◌, ◌^◌, true, OnOk};
+ghost use Rattle.std.specs.Prelude.{◌≡◌, ◌++◌, ◌+◌, ◌<◌, ◌^◌, false, true, IfOk, IfSome, OnOk};
 ghost use Rattle.mh_model.specs.Limits.{most_steps};
 ghost use Rattle.mh_model.specs.Step.{obstacle, posted};
+ghost use Rattle.mh_model.specs.Service.{parts};
+ghost use Rattle.mh_model.specs.State.{all};
 ghost use Rattle.mh_machine.specs.Rest.{answer_of};
+ghost use Rattle.mh_trace.specs.Listening.{IsIndexOf, is_exchange};
 ghost use Rattle.mh_trace.specs.Trace as spec;
 
 use crate::calls::{post_copy, preset_copy, step_once};
 use crate::head::put_head;
+use crate::listening::{Listening, listening_of};
 use crate::outcome::{put_outcome, put_post, put_preset};
 use crate::places::{add_done, add_entered, place_behind, put_sites};
 use crate::seen::{Seen, is_fault, see, starts};
@@ -15,6 +19,7 @@ use mh_base::GroupName;
 use mh_machine::{Machine, Stepped};
 use mh_model::{File, Input, Item};
 use mh_script::Command;
+use mh_store::Objects;
 use mh_told::text::Text;
 use mh_told::told::{put_did, put_total};
 use std::alloc::{AllocError, Global};
@@ -154,8 +159,9 @@ impl Tracer {
         ensures left { OnOk result (self.new ≡ spec.steps most self.old) }
     {
         let mut left = most;
+        let mut known = None;
         while self.goes_on(left) {
-            self.step(text)?;
+            known = self.step(known, text)?;
             left -= 1;
         }
         Ok(())
@@ -184,20 +190,35 @@ impl Tracer {
         taken != u64::MAX
     }
 
-    /// Makes a step, and puts the line on it.
-    fn step(&mut self, text: &mut Text) -> Result<(), AllocError>
-        requires { self.old.state.taken + 1 < 2 ^ 64 }
+    /// Makes a step, and puts the line on it. What is known of the links before it comes in, if it is, and what is
+    /// known behind it goes out.
+    fn step(
+        &mut self,
+        known: Option<Listening>,
+        text: &mut Text,
+    ) -> Result<Option<Listening>, AllocError>
+        requires room { self.old.state.taken + 1 < 2 ^ 64 }
+        requires known { IfSome known (λ index. IsIndexOf index.entries (parts (all self.old.state.objects))) }
         ensures line { OnOk result (text.new ≡ text.old ++ spec.step_line self.old) }
         ensures left { OnOk result (self.new ≡ spec.traced_step self.old) }
+        ensures known { IfOk result
+            (λ known. IfSome known (λ index. IsIndexOf index.entries (parts (all self.new.state.objects)))) }
     {
         let front = self.machine.front()?;
-        self.step_with(&front, text)?;
-        Ok(())
+        let listening = known_or_found(self.alloc, known, self.machine.objects())?;
+        self.step_with(&front, &listening, text)?;
+        Ok(unless_exchanged(&front, listening))
     }
 
     /// Makes the step that does this item, or takes what waits where there is none.
-    fn step_with(&mut self, front: &Option<Item>, text: &mut Text) -> Result<(), AllocError>
-        requires { self.old.state.taken + 1 < 2 ^ 64 }
+    fn step_with(
+        &mut self,
+        front: &Option<Item>,
+        listening: &Listening,
+        text: &mut Text,
+    ) -> Result<(), AllocError>
+        requires room { self.old.state.taken + 1 < 2 ^ 64 }
+        requires index { IsIndexOf listening.now.entries (parts (all self.old.state.objects)) }
         ensures line { OnOk result (text.new ≡ text.old ++ spec.line_by front.now self.old) }
         ensures left { OnOk result (self.new ≡ spec.traced_by front.now self.old) }
     {
@@ -208,8 +229,15 @@ impl Tracer {
             &self.machine,
             self.places.as_slice(),
             self.directory.as_slice(),
+            listening,
         )?;
-        let seen = see(self.alloc, front, &self.machine, self.places.as_slice())?;
+        let seen = see(
+            self.alloc,
+            front,
+            &self.machine,
+            self.places.as_slice(),
+            listening,
+        )?;
         let answer = step_once(&mut self.machine)?;
         self.settle(front, seen, &answer, text)?;
         Ok(())
@@ -246,5 +274,30 @@ impl Tracer {
         place_behind(&mut self.places, front, started, closing, put)?;
         add_done(&mut self.done, is_fault, place)?;
         add_entered(&mut self.entered, front)
+    }
+}
+
+/// What is known of the links among these objects; it is looked for where it is not known.
+fn known_or_found(
+    alloc: Global,
+    known: Option<Listening>,
+    objects: &Objects,
+) -> Result<Listening, AllocError>
+    requires { IfSome known (λ index. IsIndexOf index.entries (parts (all objects.now))) }
+    ensures { IfOk result (λ index. IsIndexOf index.entries (parts (all objects.now))) }
+{
+    match known {
+        Some(listening) => Ok(listening),
+        None => listening_of(alloc, objects),
+    }
+}
+
+/// What was known of the links, unless the item has exchanged the objects.
+fn unless_exchanged(front: &Option<Item>, listening: Listening) -> Option<Listening>
+    ensures { IfSome result (λ index. (is_exchange front.now ≡ false) × (index.entries ≡ listening.entries)) }
+{
+    match front {
+        Some(Item::Exchange(_)) => None,
+        _ => Some(listening),
     }
 }

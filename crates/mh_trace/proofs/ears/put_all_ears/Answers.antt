@@ -1,15 +1,14 @@
-use Rattle.std.specs.Prelude.{◌≤◌, length}
-use Rattle.std.proofs.Common.{rules}
+use Rattle.std.specs.Prelude.{List, ℕ, ◌++◌}
+use Rattle.std.proofs.Common.{ap, ◌∙◌}
 use Rattle.mh_model.specs.State.{all}
 use Rattle.mh_trace.specs.Ears.{ear}
-use Rattle.mh_trace.proofs.PlaceLemmas.{next_put, all_put}
+use Rattle.mh_trace.proofs.ListeningLemmas.{all_by_places, ear_none}
 use Rattle.mh_trace.proofs.ears.put_all_ears.Goals as goal
-
-pub loop-place-preserved : goal.loop-place-preserved
-loop-place-preserved c =
-    next_put (ear c.args.event.now) (all c.args.objects.now) c.loop-place.place c.loop-place.text c.put_ear_at.new.text _ (search rules) c.loop-place.invariant
 
 pub returns : goal.returns
 returns c =
-    let over : length (all c.args.objects.now) ≤ c.loop-place.place = search rules in
-    all_put (ear c.args.event.now) (all c.args.objects.now) c.loop-place.place c.loop-place.text _ over c.loop-place.invariant
+    let e = c.args.event.now in
+    let n = e.source.number in
+    c.put_ears_at.ensures
+    ∙ ap (λ (ls : List ℕ). c.args.text.now ++ ls)
+    (all_by_places (ear e) n (all c.args.objects.now) c.places.result.now (ear_none e) (c.places.ensures ∙ c.requires n))
