@@ -1,5 +1,5 @@
 -- The links that an event asks are all that wait for it.
-use Rattle.std.specs.Prelude.{◌≡◌, ℕ, zero, suc, ◌+◌, ◌≤◌, ◌<◌, nat_eq, ◌==◌, Bool, true, false, ◌&&◌, if◌then◌else◌, List, [], ◌∷◌, ◌++◌, drop, length, slice_get, Option, Some, None, refl}
+use Rattle.std.specs.Prelude.{◌≡◌, IfSome, ℕ, zero, suc, ◌+◌, ◌≤◌, ◌<◌, nat_eq, ◌==◌, Bool, true, false, ◌&&◌, if◌then◌else◌, List, [], ◌∷◌, ◌++◌, drop, length, slice_get, Option, Some, None, refl}
 use Rattle.std.specs.List.{flat_map}
 use Rattle.std.specs.Option.{option_map_or}
 use Rattle.std.specs.Str.{bytes_eq}
@@ -47,7 +47,7 @@ next_listed n os k old new whole put so_far =
     let this : List ℕ = option_map_or (λ (o : Object). place_if (heard_number o.fixed) n k) (slice_get os k) [] in
     (λ i. put i ++ places_from n (next i) (parts (drop (next i) os)))
     ∙ append_assoc old this (places_from n (suc k) (parts (drop (suc k) os)))
-    ∙ ap (λ (ys : List ℕ). old ++ this ++ ys) (sym (nothing_behind n os k (suc k)))
+    ∙ ap (λ (ys : List ℕ). old ++ (this ++ ys)) (sym (nothing_behind n os k (suc k)))
     ∙ ap (λ (ys : List ℕ). old ++ ys) (sym (next_from n os k k)) ∙ so_far
 
 pub all_listed : (n : ℕ) (os : List Object) (k : ℕ) (old whole : List ℕ) → length os ≤ k → old ++ places_from n k (parts (drop k os)) ≡ whole → old ≡ whole
@@ -138,3 +138,8 @@ pub still_listed : (s : State) (i : Option Item) (es fs : List (ℕ × List ℕ)
 still_listed s i es fs front other same index n =
     ap (listed n) same ∙ index n
     ∙ ap (places_from n 0) (sym (parts_stay s (ap is_exchange front ∙ other)))
+
+-- what is there, and was so, is so
+pub some_kept : {T : Type 0} (P Q : T → Type 0) (m : Option T) → IfSome m P → ((x : T) → P x → Q x) → IfSome m Q
+some_kept P Q None was so = tt
+some_kept P Q (Some x) was so = so x was

@@ -28,21 +28,23 @@ use Rattle.mh_model.specs.declared.object.Object.{Object}
 use Rattle.mh_model.specs.declared.sort.Sort.{Sort}
 use Rattle.mh_model.specs.declared.sort.Sort.TheVariants as sort
 use Rattle.mh_model.specs.Arguments.{receivers, values, referred}
-use Rattle.mh_model.specs.Bodies.{brought, changed_by, stored}
+use Rattle.mh_model.specs.Bodies.{brought, changed_by, dropped, halted, prepared, started, stored}
+use Rattle.mh_model.specs.EntryFields.{pressed_of}
 use Rattle.mh_model.specs.Faults.{passed}
-use Rattle.mh_model.specs.Files.{comes_to, is_loadable}
+use Rattle.mh_model.specs.Files.{comes_to, is_loadable, waits_for}
 use Rattle.mh_model.specs.Items.{heard}
 use Rattle.mh_model.specs.Known.{params_in}
+use Rattle.mh_model.specs.Lifecycle.{loaded_at, run_places}
 use Rattle.mh_model.specs.Programs.{outs, said_by}
 use Rattle.mh_model.specs.Reference.{group_ref}
-use Rattle.mh_model.specs.Rules.{act_on, act_rule, all_placed, begins, begins_or_waits, call_rule, changed, changed_in, emitted, filled, interact_rule, is_at, is_begun, leads_to_late, load_rule, loaded_with, on_body, outcome_at, placed_at, rule, rule_by, text_brought, whole_rule, widget_at, widget_rule, with_text}
+use Rattle.mh_model.specs.Rules.{act_on, act_rule, all_placed, begins, begins_or_waits, call_rule, changed, changed_in, emitted, filled, interact_rule, is_at, is_begun, leads_to_late, load_rule, loaded_with, on_body, outcome_at, placed_at, rule, rule_by, run_rule, text_brought, whole_rule, widget_at, widget_rule, with_text}
 use Rattle.mh_model.specs.Saying.{answers_at}
 use Rattle.mh_model.specs.Service.{object_at, part_at, parts}
 use Rattle.mh_model.specs.Sort.{sort_of}
 use Rattle.mh_model.specs.State.{Objects, State, all}
 use Rattle.mh_model.specs.Step.{awaits, did, done, key_taken, faulted, file_taken, pressed_at, scene_arrived, scene_taken, step, step_by, taking, took}
 use Rattle.mh_model.specs.Stuck.{stuck}
-use Rattle.mh_model.specs.Worked.{is_interacting}
+use Rattle.mh_model.specs.Worked.{is_interacting, worked}
 use Rattle.mh_trace.specs.Listening.{is_exchange}
 
 -- what the files say of all that are present
@@ -105,11 +107,13 @@ said_load (v ∷ w ∷ vs) r s = refl
 
 said_widget : (n : ActionName) (vs : List Value) (r : ObjRef) (m : Option Object) (s : State) → said (widget_at n vs r m s).objects ≡ said s.objects
 said_widget n vs r None s = refl
-said_widget n vs r (Some o) s = said_placed _ _ ∙ said_changed _ r s.objects
+said_widget n vs r (Some o) s =
+    let w = worked n vs r o.fixed o.body in
+    said_placed w.placed (changed (λ p b. w.body) r s.objects) ∙ said_changed (λ p b. w.body) r s.objects
 
 said_interact : (n : ActionName) (vs : List Value) (rs : List ObjRef) (r : ObjRef) (s : State) → said (interact_rule n vs rs r s).objects ≡ said s.objects
 said_interact action.SetInteractionStatus vs rs r s = refl
-said_interact action.GetInteractionStatus vs rs r s = said_filled rs _ s.objects
+said_interact action.GetInteractionStatus vs rs r s = said_filled rs (value.Bool (is_interacting r s.interaction) ∷ []) s.objects
 said_interact _ vs rs r s = refl
 
 said_moved : (begun late : Bool) (n : ActionName) (r : ObjRef) (s : State) → said (if begun then s else begins_or_waits late n r s).objects ≡ said s.objects
@@ -124,11 +128,13 @@ said_whole action.Quit vs r s = said_moved (is_begun s.transition) (leads_to_lat
 said_whole _ vs r s = refl
 
 said_acted : (so : Sort) (n : ActionName) (xs : List Argument) (r : ObjRef) (s : State) → said (rule_by so n xs r s).objects ≡ said s.objects
-said_acted sort.Change n xs r s = said_changed _ r s.objects
-said_acted sort.Ask n xs r s = said_filled (receivers xs) _ s.objects
+said_acted sort.Change n xs r s = said_changed (changed_by n (values (all s.objects) xs)) r s.objects
+said_acted sort.Ask n xs r s = said_filled (receivers xs) (answers_at n (values (all s.objects) xs) (object_at r (all s.objects))) s.objects
 said_acted sort.Put n xs r s = refl
 said_acted sort.Load n xs r s = said_load (values (all s.objects) xs) r s
-said_acted sort.Call n xs r s = said_filled _ _ s.objects
+said_acted sort.Call n xs r s =
+    let taken = unwrap_or (params_in s.service.programs (part_at r (parts (all s.objects)))) [] in
+    said_filled (receivers xs ++ outs taken (passed xs)) (said_by (outcome_at (part_at r (parts (all s.objects))) taken xs s)) s.objects
 said_acted sort.Order n xs r s = refl
 said_acted sort.Widget n xs r s = said_widget n (values (all s.objects) xs) r (object_at r (all s.objects)) s
 said_acted sort.Interact n xs r s = said_interact n (values (all s.objects) xs) (receivers xs) r s
@@ -144,14 +150,20 @@ said_emitted : (b : Bool) (e : Event) (s : State) → said (if b then record s {
 said_emitted true e s = refl
 said_emitted false e s = refl
 
+said_run : (r : ObjRef) (s : State) → said (run_rule r s).objects ≡ said s.objects
+said_run r s =
+    let text = loaded_at s.files (object_at r (all s.objects)) in
+    said_placed (run_places (object_at r (all s.objects))) (changed (λ p b. started text p b) r s.objects)
+    ∙ said_changed (λ p b. started text p b) r s.objects
+
 said_ruled : (i : Item) (s : State) → is_exchange (Some i) ≡ false → said (rule i s).objects ≡ said s.objects
 said_ruled (item.Act a) s other = said_acted_on (referred a.target (all s.objects)) a.name a.arguments s
-said_ruled (item.Prepare r) s other = said_changed _ r s.objects
-said_ruled (item.Run r) s other = said_placed _ _ ∙ said_changed _ r s.objects
-said_ruled (item.Halt r) s other = said_changed _ r s.objects
-said_ruled (item.RunMember r) s other = said_placed _ _ ∙ said_changed _ r s.objects
-said_ruled (item.HaltMember r) s other = said_changed _ r s.objects
-said_ruled (item.Drop r) s other = said_changed _ r s.objects
+said_ruled (item.Prepare r) s other = said_changed (λ p b. prepared (loaded_at s.files (object_at r (all s.objects))) b) r s.objects
+said_ruled (item.Run r) s other = said_run r s
+said_ruled (item.Halt r) s other = said_changed (λ p b. halted b) r s.objects
+said_ruled (item.RunMember r) s other = said_run r s
+said_ruled (item.HaltMember r) s other = said_changed (λ p b. halted b) r s.objects
+said_ruled (item.Drop r) s other = said_changed (λ p b. dropped b) r s.objects
 said_ruled (item.Emit e) s other = said_emitted (is_sync e.kind) e s
 said_ruled (item.Enter g) s other = refl
 said_ruled (item.Exchange g) s other = absurd (false≢true (sym other))
@@ -163,7 +175,9 @@ said_did (Some f) i s other = refl
 
 said_pressed : (k : Key) (i : Interaction) (m : Option Object) (s : State) → said (pressed_at k i m s).objects ≡ said s.objects
 said_pressed k i None s = refl
-said_pressed k i (Some o) s = said_changed _ i.object s.objects
+said_pressed k i (Some o) s =
+    let w = pressed_of o.fixed.class k i.before i.object o.fixed o.body in
+    said_changed (λ p b. w.body) i.object s.objects
 
 said_keyed : (k : Key) (m : Option Interaction) (s : State) → said (key_taken k m s).objects ≡ said s.objects
 said_keyed k None s = refl
@@ -179,7 +193,7 @@ said_taking (waiting.Input (input.Key k)) s = said_keyed k s.interaction s
 said_taking (waiting.Input (input.Tick n)) s = refl
 said_taking (waiting.Input (input.Stream n)) s = refl
 said_taking (waiting.Input (input.Engine n)) s = refl
-said_taking (waiting.Input (input.Arrive f)) s = said_brought _ _ s.objects
+said_taking (waiting.Input (input.Arrive f)) s = said_brought (waits_for f.name s.waits) f.content s.objects
 said_taking (waiting.Input (input.Scene g w)) s = said_arrived (awaits g s.transition) g s
 
 said_stepped : (i : Option Item) (w : Option Waiting) (s : State) → is_exchange i ≡ false → said (step_by i w s).objects ≡ said s.objects

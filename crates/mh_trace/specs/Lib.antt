@@ -5,6 +5,8 @@ pub mod Listening
 pub mod Described
 pub mod Touched
 pub mod Changes
+pub mod Why
 pub mod Trace
 pub mod Cover
 pub mod Run
+pub mod Nothing

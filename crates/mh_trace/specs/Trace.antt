@@ -47,6 +47,8 @@ use Rattle.mh_trace.specs.Described.{described}
 use Rattle.mh_trace.specs.Ears.{ears, key_note, told}
 use Rattle.mh_trace.specs.Sites.{group_sites, heard_sites, same_site, slot_sites}
 use Rattle.mh_trace.specs.Touched.{restacks, touched}
+use Rattle.mh_trace.specs.Why.{operands_note, tested_note, why_of, why_text}
+use Rattle.mh_trace.specs.declared.why.Why.{Why}
 use Rattle.mh_trace.specs.Words.{input_text, item_text, ref_text, site_text, waiting_text}
 
 -- Where actions are written, as it is told behind their places: a list from places to texts
@@ -219,8 +221,8 @@ number_text n = decimal n ++ codes " "
 
 unfoldable pub head_by : Directory → Option Item → Option Waiting → State → List Site → List ℕ
 head_by ws i w s ps =
-    number_text (s.taken + 1) ++ entry_text i w ++ place_note ws (place_of i ps) ++ through_note i (all s.objects)
-    ++ keyed_note i w s ++ ears (told i w s) (all s.objects)
+    number_text (s.taken + 1) ++ entry_text i w ++ operands_note i (all s.objects) ++ place_note ws (place_of i ps) ++ through_note i (all s.objects)
+    ++ tested_note i (all s.objects) ++ keyed_note i w s ++ ears (told i w s) (all s.objects)
 
 -- What comes of it
 
@@ -288,12 +290,15 @@ is_quiet None None begun put = true
 abbrev pub is_same : Bool → List ℕ → State → Bool
 is_same stacks before t = bytes_eq before (described stacks (length t.queue) t)
 
-abbrev pub nothing_note : Bool → List ℕ
-nothing_note b = if b then codes "; nothing" else []
+unfoldable pub nothing_text : Why → List ℕ
+nothing_text why = codes "; nothing" ++ why_text why
 
--- what has become of the objects that the step may change, and that nothing has come of it where nothing has
-unfoldable pub changes_text : List ℕ → Bool → List ℕ
-changes_text changes rests = changes ++ nothing_note (is_empty changes && rests)
+abbrev pub nothing_note : Bool → Why → List ℕ
+nothing_note b why = if b then nothing_text why else []
+
+-- what has become of the objects that the step may change, and that nothing has come of it where nothing has, and why
+unfoldable pub changes_text : List ℕ → Bool → Why → List ℕ
+changes_text changes rests why = changes ++ nothing_note (is_empty changes && rests) why
 
 -- nothing comes of an entry that is no fault
 abbrev pub may_be_nothing : Stepped → Bool → Bool
@@ -305,9 +310,9 @@ fault_text _ = []
 
 -- whether a transition begins and what it drops, how many wait behind it of those that did, what has become of objects,
 -- whether nothing else has come of it, and what the step answered
-unfoldable pub outcome_text : Bool → ℕ → ℕ → List ℕ → Bool → Stepped → List ℕ
-outcome_text started dropped forgotten changes rests a =
-    started_note started dropped ++ forgotten_note forgotten ++ changes_text changes rests ++ 10 ∷ [] ++ fault_text a
+unfoldable pub outcome_text : Bool → ℕ → ℕ → List ℕ → Bool → Why → Stepped → List ℕ
+outcome_text started dropped forgotten changes rests why a =
+    started_note started dropped ++ forgotten_note forgotten ++ changes_text changes rests why ++ 10 ∷ [] ++ fault_text a
 
 -- WHAT IS SEEN OF A STATE BEFORE ITS STEP, and what a step makes of it
 
@@ -322,6 +327,7 @@ seen_of i s ps = record {
   stacks = restacks i;
   described = described (restacks i) (waiting_left i s) s;
   touched = touched i (first s) s;
+  why = why_of i (is_begun s.transition) (all s.objects);
   place = place_of i ps;
 }
 
@@ -332,7 +338,7 @@ has_rested x a t = may_be_nothing a x.quiet && is_same x.stacks x.described t
 -- what is told behind the step, in this state, where it answered this
 abbrev pub settled_text : Seen → Stepped → State → List ℕ
 settled_text x a t =
-    outcome_text (starts x.begun t) x.dropped (x.waiting - length t.queue) (notes x.touched (all t.objects)) (has_rested x a t) a
+    outcome_text (starts x.begun t) x.dropped (x.waiting - length t.queue) (notes x.touched (all t.objects)) (has_rested x a t) x.why a
 
 -- what is traced behind the step, whether its entry was a fault being known
 abbrev pub noted : Option Item → Seen → Bool → Tracing → Tracing

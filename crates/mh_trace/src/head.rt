@@ -11,6 +11,7 @@ use crate::ears::{put_ears, put_key_note, told};
 use crate::listening::Listening;
 use crate::seen::place_of;
 use crate::site::Site;
+use crate::why::{put_operands, put_tested};
 use crate::words::{put_item, put_ref, put_site, put_waiting};
 use mh_actions::arguments::referred;
 use mh_base::ObjRef;
@@ -19,6 +20,7 @@ use mh_model::{Input, Item, Target, Waiting};
 use mh_store::Objects;
 use mh_told::text::Text;
 use std::alloc::{AllocError, Global};
+use std::collections::VecDeque;
 
 /// Puts the beginning of the line of the next step, which does this item, or takes what waits where there is none.
 #[tactic(auto, unfolding(crate::specs::Trace::head_by))]
@@ -27,20 +29,22 @@ pub fn put_head(
     text: &mut Text,
     front: &Option<Item>,
     machine: &Machine,
-    places: &[Site],
+    places: &VecDeque<Site>,
     directory: &[(Site, Text)],
     listening: &Listening,
 ) -> Result<(), AllocError>
     requires room { machine.now.taken + 1 < 2 ^ 64 }
     requires index { IsIndexOf listening.now.entries (parts (all machine.now.objects)) }
     ensures { OnOk result (text.new
-        ≡ text.old ++ spec.head_by directory.now front.now (spec.first machine.now) machine.now places.now) }
+        ≡ text.old ++ spec.head_by directory.now front.now (spec.first machine.now) machine.now places.now.items) }
 {
     let waiting = machine.queue().first();
     put_number(text, machine.taken() + 1)?;
     put_entry(alloc, text, front, waiting)?;
+    put_operands(alloc, text, front, machine.objects())?;
     put_place_note(text, front, places, directory)?;
     put_through(text, front, machine.objects())?;
+    put_tested(alloc, text, front, machine.objects())?;
     put_keyed(alloc, text, front, waiting, machine)?;
     let told = told(front, waiting, machine)?;
     put_ears(alloc, text, &told, machine.objects(), listening)
@@ -72,11 +76,11 @@ fn put_entry(
 fn put_place_note(
     text: &mut Text,
     front: &Option<Item>,
-    places: &[Site],
+    places: &VecDeque<Site>,
     directory: &[(Site, Text)],
 ) -> Result<(), AllocError>
     ensures { OnOk result (text.new
-        ≡ text.old ++ spec.place_note directory.now (spec.place_of front.now places.now)) }
+        ≡ text.old ++ spec.place_note directory.now (spec.place_of front.now places.now.items)) }
 {
     let place = place_of(front, places)?;
     put_place_at(text, &place, directory)

@@ -28,6 +28,7 @@ pub mod site;
 mod sites;
 mod touched;
 pub mod tracer;
+mod why;
 pub mod words;
 
 pub use cover::Covered;

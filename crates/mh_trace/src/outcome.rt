@@ -5,6 +5,7 @@ ghost use Rattle.mh_trace.specs.Trace as spec;
 use crate::changes::changes;
 use crate::described::described;
 use crate::seen::{Seen, is_fault, starts};
+use crate::why::{Why, why_text};
 use crate::words::put_input;
 use mh_machine::{Machine, Stepped};
 use mh_model::{File, Input, Obstacle};
@@ -46,34 +47,43 @@ fn put_parts(
     forgotten: usize,
     changes: &Text,
     rests: bool,
+    why: Why,
     answer: &Stepped,
 ) -> Result<(), AllocError>
     ensures { OnOk result (text.new
-        ≡ text.old ++ spec.outcome_text started dropped forgotten changes.now rests answer.now) }
+        ≡ text.old ++ spec.outcome_text started dropped forgotten changes.now rests why answer.now) }
 {
     put_started(text, started, dropped)?;
     put_forgotten(text, forgotten)?;
-    put_changes(text, changes, rests)?;
+    put_changes(text, changes, rests, why)?;
     text.put(b"\n")?;
     put_fault_line(text, answer)
 }
 
 #[tactic(auto, unfolding(crate::specs::Trace::changes_text))]
-fn put_changes(text: &mut Text, changes: &Text, rests: bool) -> Result<(), AllocError>
-    ensures { OnOk result (text.new ≡ text.old ++ spec.changes_text changes.now rests) }
+fn put_changes(text: &mut Text, changes: &Text, rests: bool, why: Why) -> Result<(), AllocError>
+    ensures { OnOk result (text.new ≡ text.old ++ spec.changes_text changes.now rests why) }
 {
     text.put(changes.as_slice())?;
-    put_nothing(text, changes.as_slice().is_empty() && rests)
+    put_nothing(text, changes.as_slice().is_empty() && rests, why)
 }
 
-fn put_nothing(text: &mut Text, is_nothing: bool) -> Result<(), AllocError>
-    ensures { OnOk result (text.new ≡ text.old ++ spec.nothing_note is_nothing) }
+fn put_nothing(text: &mut Text, is_nothing: bool, why: Why) -> Result<(), AllocError>
+    ensures { OnOk result (text.new ≡ text.old ++ spec.nothing_note is_nothing why) }
 {
     if is_nothing {
-        text.put(b"; nothing")
+        put_nothing_text(text, why)
     } else {
         Ok(())
     }
+}
+
+#[tactic(auto, unfolding(crate::specs::Trace::nothing_text))]
+fn put_nothing_text(text: &mut Text, why: Why) -> Result<(), AllocError>
+    ensures { OnOk result (text.new ≡ text.old ++ spec.nothing_text why) }
+{
+    text.put(b"; nothing")?;
+    text.put(why_text(why))
 }
 
 /// Whether nothing but objects has changed, as far as it was seen.

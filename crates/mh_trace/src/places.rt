@@ -9,6 +9,7 @@ use crate::site::Site;
 use mh_base::{GroupName, Seq};
 use mh_model::Item;
 use std::alloc::{AllocError, Global};
+use std::collections::VecDeque;
 
 /// What a step puts that begins no transition: nothing where its entry is a fault.
 pub fn put_sites(alloc: Global, is_fault: bool, put: Seq<Site>) -> Seq<Site>
@@ -20,7 +21,7 @@ pub fn put_sites(alloc: Global, is_fault: bool, put: Seq<Site>) -> Seq<Site>
 /// The places behind a step that does this item: where a transition has started, those of what closes down, and
 /// else those that are put, in front of those that are left.
 pub fn place_behind(
-    places: &mut Vec<Site>,
+    places: &mut VecDeque<Site>,
     front: &Option<Item>,
     started: bool,
     closing: Seq<Site>,
@@ -30,15 +31,15 @@ pub fn place_behind(
         OnOk result (places.new.items ≡ spec.places_with started closing put left) }
 {
     if started {
-        *places = closing.into_vec();
-        return Ok(());
+        places.clear();
+        return put_in_front(places, closing.into_vec());
     }
     take_first(places, front);
     put_in_front(places, put.into_vec())
 }
 
 /// Takes the first place away, where an action is done.
-fn take_first(places: &mut Vec<Site>, front: &Option<Item>)
+fn take_first(places: &mut VecDeque<Site>, front: &Option<Item>)
     ensures { places.new.items ≡ spec.places_behind front.now places.old.items }
 {
     if let Some(Item::Act(_)) = front {
@@ -46,32 +47,19 @@ fn take_first(places: &mut Vec<Site>, front: &Option<Item>)
     }
 }
 
-fn drop_first(places: &mut Vec<Site>)
+fn drop_first(places: &mut VecDeque<Site>)
     ensures { places.new.items ≡ drop 1 places.old.items }
 {
-    if !places.is_empty() {
-        let _ = places.remove(0);
-    }
+    let _ = places.pop_front();
 }
 
 /// Puts these places in front of the others.
-fn put_in_front(places: &mut Vec<Site>, put: Vec<Site>) -> Result<(), AllocError>
+fn put_in_front(places: &mut VecDeque<Site>, put: Vec<Site>) -> Result<(), AllocError>
     ensures { OnOk result (places.new.items ≡ put.items ++ places.old.items) }
 {
-    if put.is_empty() {
-        return Ok(());
-    }
-    let mut whole = put;
-    push_all(&mut whole, places.as_slice())?;
-    *places = whole;
-    Ok(())
-}
-
-fn push_all(sites: &mut Vec<Site>, more: &[Site]) -> Result<(), AllocError>
-    ensures { OnOk result (sites.new.items ≡ sites.old.items ++ more.now) }
-{
-    for site in more {
-        sites.push(site.copied()?)?;
+    let mut put = put;
+    while let Some(site) = put.pop() {
+        places.push_front(site)?;
     }
     Ok(())
 }

@@ -19,6 +19,7 @@ use crate::quiet::is_quiet;
 use crate::site::Site;
 use crate::sites::{heard_sites, push_close_down, push_start_up, slot_sites};
 use crate::touched::{restacks, touched};
+use crate::why::{Why, why_of};
 use mh_actions::arguments::{referred, values};
 use mh_base::{GroupName, Seq};
 use mh_group::ActionName;
@@ -28,6 +29,7 @@ use mh_service::Service;
 use mh_store::Objects;
 use mh_told::text::Text;
 use std::alloc::{AllocError, Global};
+use std::collections::VecDeque;
 
 /// What is seen of a state before its step.
 #[derive(Drop)]
@@ -50,6 +52,8 @@ pub struct Seen {
     pub described: Text,
     /// The objects that the step may change, as they are before it.
     pub touched: Seq<Object>,
+    /// Why nothing would come of the entry.
+    pub why: Why,
     /// Where the action stands that is done, if one is.
     pub place: Option<Site>,
 }
@@ -59,11 +63,11 @@ pub fn see(
     alloc: Global,
     front: &Option<Item>,
     machine: &Machine,
-    places: &[Site],
+    places: &VecDeque<Site>,
     listening: &Listening,
 ) -> Result<Seen, AllocError>
     requires { IsIndexOf listening.now.entries (parts (all machine.now.objects)) }
-    ensures { IfOk result (λ seen. seen ≡ spec.seen_of front.now machine.now places.now) }
+    ensures { IfOk result (λ seen. seen ≡ spec.seen_of front.now machine.now places.now.items) }
 {
     let opened = opened(alloc, front, machine, listening)?;
     let closing = closing(alloc, front, machine)?;
@@ -71,6 +75,8 @@ pub fn see(
     let stacks = restacks(front);
     let described = described(alloc, stacks, waiting, machine)?;
     let touched = touched(alloc, front, machine)?;
+    let begun = is_begun(machine.transition());
+    let why = why_of(alloc, front, begun, machine.objects())?;
     let place = place_of(front, places)?;
     let quiet = is_quiet(
         front,
@@ -83,18 +89,19 @@ pub fn see(
         closing,
         dropped: left_behind(front, places),
         waiting,
-        begun: is_begun(machine.transition()),
+        begun,
         quiet,
         stacks,
         described,
         touched,
+        why,
         place,
     })
 }
 
 /// How many places are left behind what is done.
-fn left_behind(front: &Option<Item>, places: &[Site]) -> usize
-    ensures { result ≡ length (spec.places_behind front.now places.now) }
+fn left_behind(front: &Option<Item>, places: &VecDeque<Site>) -> usize
+    ensures { result ≡ length (spec.places_behind front.now places.now.items) }
 {
     match front {
         Some(Item::Act(_)) => places.len().saturating_sub(1),
@@ -132,8 +139,8 @@ pub fn is_fault(answer: &Stepped) -> bool
 }
 
 /// Where the action stands that is done, if one is.
-pub fn place_of(front: &Option<Item>, places: &[Site]) -> Result<Option<Site>, AllocError>
-    ensures { IfOk result (λ place. place ≡ spec.place_of front.now places.now) }
+pub fn place_of(front: &Option<Item>, places: &VecDeque<Site>) -> Result<Option<Site>, AllocError>
+    ensures { IfOk result (λ place. place ≡ spec.place_of front.now places.now.items) }
 {
     match front {
         Some(Item::Act(_)) => first_of(places),
@@ -141,12 +148,12 @@ pub fn place_of(front: &Option<Item>, places: &[Site]) -> Result<Option<Site>, A
     }
 }
 
-fn first_of(places: &[Site]) -> Result<Option<Site>, AllocError>
-    ensures { IfOk result (λ place. place ≡ slice_get places.now 0) }
+fn first_of(places: &VecDeque<Site>) -> Result<Option<Site>, AllocError>
+    ensures { IfOk result (λ place. place ≡ slice_get places.now.items 0) }
 {
-    match places {
-        [first, ..] => Ok(Some(first.copied()?)),
-        [] => Ok(None),
+    match places.front() {
+        Some(first) => Ok(Some(first.copied()?)),
+        None => Ok(None),
     }
 }
 

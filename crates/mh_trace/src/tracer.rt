@@ -23,6 +23,7 @@ use mh_store::Objects;
 use mh_told::text::Text;
 use mh_told::told::{put_did, put_total};
 use std::alloc::{AllocError, Global};
+use std::collections::VecDeque;
 use std::marker::Model;
 
 /// A machine whose steps are told: with the places of the actions on its work list, the places of those that were
@@ -31,7 +32,7 @@ use std::marker::Model;
 pub struct Tracer {
     alloc: Global,
     machine: Machine,
-    places: Vec<Site>,
+    places: VecDeque<Site>,
     done: Vec<Site>,
     entered: Vec<GroupName>,
     directory: Vec<(Site, Text)>,
@@ -59,7 +60,7 @@ impl Tracer {
         Tracer {
             alloc,
             machine,
-            places: Vec::new(alloc),
+            places: VecDeque::new(alloc),
             done: Vec::new(alloc),
             entered: Vec::new(alloc),
             directory,
@@ -227,17 +228,11 @@ impl Tracer {
             text,
             front,
             &self.machine,
-            self.places.as_slice(),
+            &self.places,
             self.directory.as_slice(),
             listening,
         )?;
-        let seen = see(
-            self.alloc,
-            front,
-            &self.machine,
-            self.places.as_slice(),
-            listening,
-        )?;
+        let seen = see(self.alloc, front, &self.machine, &self.places, listening)?;
         let answer = step_once(&mut self.machine)?;
         self.settle(front, seen, &answer, text)?;
         Ok(())

@@ -14,7 +14,7 @@ returns-clause-line c =
     let ws = c.self.inside.directory.items in
     c.in_ok-settle.ensures.line
     ∙ (λ j. c.in_ok-put_head.ensures j ++ settled_text (c.in_ok-seen.ensures j) (c.in_ok-answer.ensures.answer j) (c.in_ok-answer.ensures.step j))
-    ∙ (λ j. (c.args.text.now ++ head_by (c.as_slice-2.ensures.value j) i (first s) s (c.as_slice.ensures.value j)) ++ settled_text (seen_of i s (c.as_slice-3.ensures.value j)) (answer_of s) (step s))
+    ∙ (λ j. (c.args.text.now ++ head_by (c.as_slice.ensures.value j) i (first s) s ps) ++ settled_text (seen_of i s ps) (answer_of s) (step s))
     ∙ append_assoc c.args.text.now (head_by ws i (first s) s ps) (settled_text (seen_of i s ps) (answer_of s) (step s))
     ∙ ap (λ (q : Tracing). c.args.text.now ++ line_by i q) c.self.view_is
 
@@ -31,5 +31,4 @@ returns-clause-left c =
     } in
     c.in_ok-settle.ensures.left
     ∙ (λ j. settled i (c.in_ok-seen.ensures j) (c.in_ok-answer.ensures.answer j) (record behind { state = c.in_ok-answer.ensures.step j }))
-    ∙ (λ j. settled i (seen_of i s (c.as_slice-3.ensures.value j)) (answer_of s) behind)
     ∙ ap (λ (q : Tracing). traced_by i q) c.self.view_is

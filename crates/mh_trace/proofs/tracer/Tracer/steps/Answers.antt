@@ -6,6 +6,7 @@ pub loop-self-preserved : goal.loop-self-preserved
 loop-self-preserved c = (
   line_made c.loop-self.left c.loop-self.self c.step.new.self c.loop-self.text c.step.new.text _ (search rules) (search rules) (search rules) c.loop-self.invariant.0,
   step_made c.loop-self.left c.loop-self.self c.step.new.self _ (search rules) (search rules) c.loop-self.invariant.1,
+  search rules,
 )
 
 pub returns-clause-lines : goal.returns-clause-lines
