@@ -5,3 +5,4 @@ pub mod CallLemmas
 pub mod ListeningLemmas
 pub mod PartsLemmas
 pub mod NothingLemmas
+pub mod WrittenLemmas

@@ -6,7 +6,7 @@ ghost use Rattle.mh_model.specs.State.{all};
 ghost use Rattle.mh_trace.specs.Listening.{IsIndexOf};
 ghost use Rattle.mh_trace.specs.Trace as spec;
 
-use crate::directory::put_written;
+use crate::directory::Directory;
 use crate::ears::{put_ears, put_key_note, told};
 use crate::listening::Listening;
 use crate::seen::place_of;
@@ -30,7 +30,7 @@ pub fn put_head(
     front: &Option<Item>,
     machine: &Machine,
     places: &VecDeque<Site>,
-    directory: &[(Site, Text)],
+    directory: &Directory,
     listening: &Listening,
 ) -> Result<(), AllocError>
     requires room { machine.now.taken + 1 < 2 ^ 64 }
@@ -77,7 +77,7 @@ fn put_place_note(
     text: &mut Text,
     front: &Option<Item>,
     places: &VecDeque<Site>,
-    directory: &[(Site, Text)],
+    directory: &Directory,
 ) -> Result<(), AllocError>
     ensures { OnOk result (text.new
         ≡ text.old ++ spec.place_note directory.now (spec.place_of front.now places.now.items)) }
@@ -89,7 +89,7 @@ fn put_place_note(
 fn put_place_at(
     text: &mut Text,
     place: &Option<Site>,
-    directory: &[(Site, Text)],
+    directory: &Directory,
 ) -> Result<(), AllocError>
     ensures { OnOk result (text.new ≡ text.old ++ spec.place_note directory.now place.now) }
 {
@@ -97,7 +97,7 @@ fn put_place_at(
         Some(site) => {
             text.put(b", ")?;
             put_site(text, site)?;
-            put_written(text, directory, site)
+            directory.put_written(text, site)
         }
         None => Ok(()),
     }

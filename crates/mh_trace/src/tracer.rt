@@ -9,6 +9,7 @@ ghost use Rattle.mh_trace.specs.Listening.{IsIndexOf, is_exchange};
 ghost use Rattle.mh_trace.specs.Trace as spec;
 
 use crate::calls::{post_copy, preset_copy, step_once};
+use crate::directory::Directory;
 use crate::head::put_head;
 use crate::listening::{Listening, listening_of};
 use crate::outcome::{put_outcome, put_post, put_preset};
@@ -35,7 +36,7 @@ pub struct Tracer {
     places: VecDeque<Site>,
     done: Vec<Site>,
     entered: Vec<GroupName>,
-    directory: Vec<(Site, Text)>,
+    directory: Directory,
 }
 
 impl Model for Tracer {
@@ -48,7 +49,7 @@ impl Model for Tracer {
       places = t.places.items;
       done = t.done.items;
       entered = t.entered.items;
-      directory = t.directory.items;
+      directory = t.directory;
     } };
 }
 
@@ -63,7 +64,7 @@ impl Tracer {
             places: VecDeque::new(alloc),
             done: Vec::new(alloc),
             entered: Vec::new(alloc),
-            directory,
+            directory: Directory::new(directory),
         }
     }
 
@@ -159,6 +160,7 @@ impl Tracer {
         ensures lines { OnOk result (text.new ≡ text.old ++ spec.steps_text most self.old) }
         ensures left { OnOk result (self.new ≡ spec.steps most self.old) }
     {
+        self.directory.prepare(self.alloc)?;
         let mut left = most;
         let mut known = None;
         while self.goes_on(left) {
@@ -199,11 +201,11 @@ impl Tracer {
         text: &mut Text,
     ) -> Result<Option<Listening>, AllocError>
         requires room { self.old.state.taken + 1 < 2 ^ 64 }
-        requires known { IfSome known (λ index. IsIndexOf index.entries (parts (all self.old.state.objects))) }
+        requires before { IfSome known (λ index. IsIndexOf index.entries (parts (all self.old.state.objects))) }
         ensures line { OnOk result (text.new ≡ text.old ++ spec.step_line self.old) }
         ensures left { OnOk result (self.new ≡ spec.traced_step self.old) }
-        ensures known { IfOk result
-            (λ known. IfSome known (λ index. IsIndexOf index.entries (parts (all self.new.state.objects)))) }
+        ensures behind { IfOk result
+            (λ left. IfSome left (λ index. IsIndexOf index.entries (parts (all self.new.state.objects)))) }
     {
         let front = self.machine.front()?;
         let listening = known_or_found(self.alloc, known, self.machine.objects())?;
@@ -229,7 +231,7 @@ impl Tracer {
             front,
             &self.machine,
             &self.places,
-            self.directory.as_slice(),
+            &self.directory,
             listening,
         )?;
         let seen = see(self.alloc, front, &self.machine, &self.places, listening)?;

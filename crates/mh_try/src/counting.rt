@@ -38,6 +38,7 @@ pub(crate) fn known_behind(bytes: &[u8], known: Known, offset: usize) -> Known
     }
 }
 
+#[tactic(auto, using(crate::proofs::CountingLemmas::rejoined))]
 fn place_from(bytes: &[u8], known: Known, offset: usize) -> Place
     requires { known.place ≡ place_at_lem bytes.now known.offset }
     ensures { result ≡ place_at_lem bytes.now offset }
@@ -52,6 +53,7 @@ fn place_from(bytes: &[u8], known: Known, offset: usize) -> Place
 }
 
 /// Where these bytes end, which stand behind a place; none where that is not told without those before it.
+#[tactic(auto, using(crate::proofs::CountingLemmas::other_line, crate::proofs::CountingLemmas::same_line))]
 fn further(front: Place, more: &[u8]) -> Option<Place>
     ensures { (xs : List ℕ) → front ≡ place_behind xs → IfSome result (λ place. place ≡ place_behind (xs ++ more.now)) }
 {

@@ -11,10 +11,9 @@ returns-clause-line c =
     let i = c.args.front.now in
     let s = c.self.inside.machine in
     let ps = c.self.inside.places.items in
-    let ws = c.self.inside.directory.items in
+    let ws = c.self.inside.directory in
     c.in_ok-settle.ensures.line
     ∙ (λ j. c.in_ok-put_head.ensures j ++ settled_text (c.in_ok-seen.ensures j) (c.in_ok-answer.ensures.answer j) (c.in_ok-answer.ensures.step j))
-    ∙ (λ j. (c.args.text.now ++ head_by (c.as_slice.ensures.value j) i (first s) s ps) ++ settled_text (seen_of i s ps) (answer_of s) (step s))
     ∙ append_assoc c.args.text.now (head_by ws i (first s) s ps) (settled_text (seen_of i s ps) (answer_of s) (step s))
     ∙ ap (λ (q : Tracing). c.args.text.now ++ line_by i q) c.self.view_is
 
@@ -27,7 +26,7 @@ returns-clause-left c =
       places = c.self.inside.places.items;
       done = c.self.inside.done.items;
       entered = c.self.inside.entered.items;
-      directory = c.self.inside.directory.items;
+      directory = c.self.inside.directory;
     } in
     c.in_ok-settle.ensures.left
     ∙ (λ j. settled i (c.in_ok-seen.ensures j) (c.in_ok-answer.ensures.answer j) (record behind { state = c.in_ok-answer.ensures.step j }))
