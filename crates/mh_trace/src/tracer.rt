@@ -148,6 +148,7 @@ impl Tracer {
         ensures left { OnOk result (self.new ≡ spec.steps most self.old) }
     {
         let before = self.machine.taken();
+        self.prepare()?;
         self.steps(most, text)?;
         put_did(
             text,
@@ -156,11 +157,17 @@ impl Tracer {
         )
     }
 
+    /// Makes ready what steps ask again and again.
+    fn prepare(&mut self) -> Result<(), AllocError>
+        ensures { OnOk result (self.new ≡ self.old) }
+    {
+        self.directory.prepare(self.alloc)
+    }
+
     fn steps(&mut self, most: u32, text: &mut Text) -> Result<(), AllocError>
         ensures lines { OnOk result (text.new ≡ text.old ++ spec.steps_text most self.old) }
         ensures left { OnOk result (self.new ≡ spec.steps most self.old) }
     {
-        self.directory.prepare(self.alloc)?;
         let mut left = most;
         let mut known = None;
         while self.goes_on(left) {
