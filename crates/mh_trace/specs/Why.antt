@@ -61,7 +61,7 @@ is_zero n = int_eq n (pos 0)
 abbrev pub is_negative : ℤ → Bool
 is_negative n = not (int_le (pos 0) n)
 
-abbrev pub why_by : ActionName → List Value → ℤ → Why
+unfoldable pub why_by : ActionName → List Value → ℤ → Why
 why_by action.Add (value.Int n ∷ []) held = why_if (not (is_zero n)) why.Limit
 why_by action.Subtract (value.Int n ∷ []) held = why_if (not (is_zero n)) why.Limit
 why_by action.Multiply (value.Int n ∷ []) held = why_if (not (int_eq n (pos 1) || is_zero held)) why.Limit

@@ -189,6 +189,7 @@ fn why_begun(begun: bool, name: ActionName, values: &[Value], held: i32) -> Why
     }
 }
 
+#[tactic(auto, unfolding(crate::specs::Why::why_by))]
 fn why_by(name: ActionName, values: &[Value], held: i32) -> Why
     ensures { result ≡ spec.why_by name values.now held }
 {
