@@ -22,6 +22,7 @@ use Rattle.mh_model.specs.State.{State, all}
 use Rattle.mh_model.specs.Step.{step}
 use Rattle.mh_trace.specs.declared.site.EffectKind.TheVariants as kind
 use Rattle.mh_trace.specs.Ears.{ear, ear_by, waits}
+use Rattle.mh_trace.specs.Trace.{Tracing, traced_by}
 use Rattle.mh_trace.specs.Sites.{heard_at, link_acts, places_in}
 use Rattle.mh_trace.proofs.PartsLemmas.{parts_stay}
 use Rattle.mh_trace.specs.Listening.{IsIndexOf, at_place, heard_number, is_exchange, is_number, listed, number_in, place_if, places_from}
@@ -139,7 +140,12 @@ still_listed s i es fs front other same index n =
     ap (listed n) same ∙ index n
     ∙ ap (places_from n 0) (sym (parts_stay s (ap is_exchange front ∙ other)))
 
--- what is there, and was so, is so
-pub some_kept : {T : Type 0} (P Q : T → Type 0) (m : Option T) → IfSome m P → ((x : T) → P x → Q x) → IfSome m Q
-some_kept P Q None was so = tt
-some_kept P Q (Some x) was so = so x was
+-- behind a step that does this item
+pub kept_behind : {T : Type 0} (entries : T → List (ℕ × List ℕ)) (p q : Tracing) (s : State) (i : Option Item) (es : List (ℕ × List ℕ)) (known : Option T)
+    → p.state ≡ s → q ≡ traced_by i p → i ≡ slice_get s.work 0 → IsIndexOf es (parts (all s.objects))
+    → IfSome known (λ x. (is_exchange i ≡ false) × (entries x ≡ es)) → IfSome known (λ x. IsIndexOf (entries x) (parts (all q.state.objects)))
+kept_behind entries p q s i es None was made front index told = tt
+kept_behind entries p q s i es (Some x) was made front index told n =
+    let now : q.state ≡ step s = ap (λ (r : Tracing). r.state) made ∙ ap step was in
+    still_listed s i es (entries x) (sym front) told.0 told.1 index n
+    ∙ ap (λ (t : State). places_from n 0 (parts (all t.objects))) (sym now)

@@ -35,6 +35,7 @@ pub fn put_outcome(
         forgotten,
         &changes,
         rests,
+        seen.why,
         answer,
     )
 }

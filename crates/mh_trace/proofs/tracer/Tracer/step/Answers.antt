@@ -1,7 +1,8 @@
-use Rattle.std.specs.Prelude.{Option}
-use Rattle.std.proofs.Common.{ap, ◌∙◌}
-use Rattle.mh_trace.proofs.ListeningLemmas.{some_kept, still_listed}
+use Rattle.std.proofs.Common.{rules}
+use Rattle.mh_trace.proofs.ListeningLemmas.{kept_behind}
 use Rattle.mh_trace.proofs.tracer.Tracer.step.Goals as goal
 
 pub returns-clause-behind : goal.returns-clause-behind
-returns-clause-behind c = ?
+returns-clause-behind c =
+    kept_behind (λ x. x.entries) _ _ c.self.inside.machine c.in_ok-front.front c.in_ok-listening.listening.entries c.unless_exchanged.result
+    (search rules) c.in_ok-step_with.ensures.left (search rules) (search rules) c.unless_exchanged.ensures
