@@ -1,19 +1,22 @@
 """Cells of a picture: the points of a cell, and its two colours with the points that have the one that is rarer."""
 
 WIDTH, HEIGHT, COLUMNS, ROWS = 12, 16, 60, 36
+MARGIN = 1                                              # a point at each side, into which the colours of the next cell run
+COUNT = (WIDTH - 2 * MARGIN) * (HEIGHT - 2 * MARGIN)
 
 
 def points(picture, column, row, shift):
-    """The 192 points of a cell, row by row; what lies off the picture is black."""
-    left, top = column * WIDTH + shift[0], row * HEIGHT + shift[1]
+    """The points of a cell, row by row, without its margin; what lies off the picture is black."""
+    left, right = column * WIDTH + shift[0] + MARGIN, (column + 1) * WIDTH + shift[0] - MARGIN
+    top, below = row * HEIGHT + shift[1] + MARGIN, (row + 1) * HEIGHT + shift[1] - MARGIN
     found = []
-    for y in range(top, top + HEIGHT):
+    for y in range(top, below):
         line = picture.rows[y] if 0 <= y < picture.height else b""
-        if 0 <= left and left + WIDTH <= picture.width and line:
-            part = line[3 * left:3 * (left + WIDTH)]
+        if 0 <= left and right <= picture.width and line:
+            part = line[3 * left:3 * right]
             found += zip(part[::3], part[1::3], part[2::3])
         else:
-            found += [tuple(line[3 * x:3 * x + 3]) if line and 0 <= x < picture.width else (0, 0, 0) for x in range(left, left + WIDTH)]
+            found += [tuple(line[3 * x:3 * x + 3]) if line and 0 <= x < picture.width else (0, 0, 0) for x in range(left, right)]
     return found
 
 

@@ -1,5 +1,5 @@
 """What is learned from a capture of the calibration page: where the picture lies, how noisy it is, its colours and its glyphs."""
-from .cells import COLUMNS, ROWS, distance, in_luma, mean, parted, points, unrest
+from .cells import COLUMNS, COUNT, ROWS, distance, in_luma, mean, parted, points, unrest
 
 SHIFTS = [(x, y) for x in range(-3, 4) for y in range(-3, 4)]
 LEAST_UNREST = 60       # a cell whose brightness varies less than this, and than the noise allows, has one colour,
@@ -75,7 +75,7 @@ class Learned:
             parts = self.parts_of(some)
             bits = parts[2] if parts else 0
             if bits and distance(mean([point for at, point in enumerate(some) if bits >> at & 1]), self.colours["ffffff"]) > distance(mean(some), self.colours["ffffff"]):
-                bits ^= (1 << 192) - 1
+                bits ^= (1 << COUNT) - 1
             same = next((known for known, shape in glyphs.items() if (shape ^ bits).bit_count() <= 2), None if bits else " ")
             if same is None:
                 glyphs[character] = bits
@@ -101,7 +101,7 @@ class Learned:
         if parts is None:
             return " ", "000000", self.back_of(mean(some))
         low, high, bits = parts
-        full = (1 << 192) - 1
+        full = (1 << COUNT) - 1
         best = min(((shape ^ seen).bit_count(), turned, character) for character, shape in self.glyphs.items() for turned, seen in ((False, bits), (True, bits ^ full)))
         if best[1]:
             low, high = high, low

@@ -1,6 +1,6 @@
 """Frames as lines: what a report says is shown, whole, and the first place at which two frames differ.
 
-A row is a list of runs, `FIRST-LAST FORE/BACK "TEXT"`; cells that no run has are black spaces before black.
+A row is a list of runs, `FIRST-LAST FORE/BACK "TEXT"`; cells that no run has are black spaces before black. A space has no colour.
 """
 import re
 
@@ -16,7 +16,7 @@ def cells_of(row):
         text = re.sub(r"\\(.)", r"\1", text)
         for at in range(int(first), int(last) + 1):
             character = text[at - int(first)] if at - int(first) < len(text) else " "
-            cells[at] = (character, fore, back)
+            cells[at] = (character, "000000" if character == " " else fore, back)
     return cells
 
 

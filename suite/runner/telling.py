@@ -23,11 +23,22 @@ def side_by_side(outcome):
     return told
 
 
+def fed_before(events, frame):
+    """What was fed before a frame was captured."""
+    fed = []
+    for event in events:
+        if event.get("capture") == frame:
+            break
+        fed += [event["do"]] if "do" in event else []
+    return ", behind " + ", ".join(fed[-8:]) if fed else ", at the start"
+
+
 def told(outcome):
     """The lines about a case that is not as wanted."""
     facts = outcome.case.facts
+    behind = "" if outcome.frame is None else fed_before(facts["events"], outcome.frame + 1)
     return ["  rule: %s" % facts["rule"], "  stands in: %s; %s" % (facts["documents"]["machine"], facts["documents"]["standard"]),
-            "  what: %s" % outcome.why] + side_by_side(outcome)
+            "  what: %s%s" % (outcome.why, behind)] + side_by_side(outcome)
 
 
 def write_images(outcome, folder, redlook):
