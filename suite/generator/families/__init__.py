@@ -1,14 +1,16 @@
 """The families, in the order of the index. Each module has a FAMILY and a function `cases` that yields its cases."""
 import importlib
 
-NAMES = ["calibration", "states", "links", "keys", "values", "indirect", "visibles", "overlap", "shapes", "layout", "fields", "buttons", "tokens", "lists",
-         "timers", "streams", "content", "scenes", "late", "lock", "programs", "stuck", "queue", "names", "notation", "refused", "verdicts"]
+NAMES = ["picture.calibration", "machine.states", "machine.links", "machine.keys", "machine.values", "machine.indirect", "picture.visibles",
+         "picture.overlap", "picture.shapes", "picture.layout", "widgets.fields", "widgets.buttons", "widgets.tokens", "widgets.lists",
+         "machine.timers", "machine.streams", "machine.content", "machine.scenes", "machine.late", "machine.lock", "machine.programs",
+         "machine.stuck", "machine.queue", "files.names", "files.notation", "files.refused", "files.verdicts"]
 
 
 def families(only=None):
     """The families, or those that are named, each with its cases."""
     for name in NAMES:
-        if only and name not in only:
+        if only and name.rpartition(".")[2] not in only:
             continue
         module = importlib.import_module("." + name, __name__)
         family = module.FAMILY

@@ -1,7 +1,7 @@
 """Visibles: where boxes stand, which cells they cover, and in which order they are painted."""
-from ..family import Family
-from ..page import Page
-from ..words import BLUE, CLEAR, GREEN, RED, WHITE, YELLOW, act, held
+from ...family import Family
+from ...page import Page
+from ...words import BLUE, CLEAR, GREEN, RED, WHITE, YELLOW, act, held
 
 FAMILY = Family("visibles", "Boxes, cells and the display stack", "The picture; The display stack; Actions 26 to 33", "Actions 26 to 33; attributes 13 and 14",
                 "ISO/IEC 13522-5, Visible class: OriginalBoxSize, Position, BringToFront to PutBehind; Application class: DisplayStack")
@@ -16,8 +16,12 @@ def covered():
         page = Page(log=False)
         page.scene.rectangle(10, x, y, 24, 32, RED)
         page.scene.words(11, x, y, 120, 16, "abcdefghijkl")
-        page.on("red", act("SetBoxSize", 10, 1, 1)), page.on("green", act("SetBoxSize", 10, 25, 33)), page.on("yellow", act("SetBoxSize", 10, 12, 16))
-        page.on("blue", act("SetBoxSize", 10, 11, 15)), page.on("1", act("SetBoxSize", 11, 13, 16)), page.on("2", act("SetBoxSize", 11, 37, 1))
+        page.on("red", act("SetBoxSize", 10, 1, 1))
+        page.on("green", act("SetBoxSize", 10, 25, 33))
+        page.on("yellow", act("SetBoxSize", 10, 12, 16))
+        page.on("blue", act("SetBoxSize", 10, 11, 15))
+        page.on("1", act("SetBoxSize", 11, 13, 16))
+        page.on("2", act("SetBoxSize", 11, 37, 1))
         page.ask(10)
         yield page.case("at-%d-%d" % (x, y), "A box covers the cells whose upper left unit lies in it: a box at (%d, %d)" % (x, y), "red text green yellow blue 1 2")
 
@@ -27,9 +31,13 @@ def sized():
         page = Page(log=False)
         page.scene.rectangle(10, 24, 32, w, h, RED, line=GREEN)
         page.scene.rectangle(11, 48, 48, 24, 32, YELLOW)
-        page.on("red", act("SetPosition", 10, 25, 33)), page.on("green", act("SetPosition", 10, 13, 17)), page.on("yellow", act("SetPosition", 10, 12, 16))
+        page.on("red", act("SetPosition", 10, 25, 33))
+        page.on("green", act("SetPosition", 10, 13, 17))
+        page.on("yellow", act("SetPosition", 10, 12, 16))
         page.on("blue", act("BringToFront", 10))
-        page.on("1", act("SetBoxSize", 11, w, h)), page.on("2", act("SetBoxSize", 11, -1, h)), page.on("3", act("SetBoxSize", 11, w, -1))
+        page.on("1", act("SetBoxSize", 11, w, h))
+        page.on("2", act("SetBoxSize", 11, -1, h))
+        page.on("3", act("SetBoxSize", 11, w, -1))
         page.ask(10, 11)
         yield page.case("size-%d-%d" % (w, h), "A box of %d by %d units: its edge cells, its fill" % (w, h), "blue red green yellow 1 text 2 text 3 text")
 
@@ -63,9 +71,13 @@ def over_each_side():
 
 def moved():
     page = Page(log=False)
-    page.scene.rectangle(10, 24, 32, 36, 48, RED), page.scene.words(11, 120, 32, 96, 16, "text"), page.scene.field(12, 240, 32, 96, 16, "field")
-    page.scene.button(13, 360, 32, 96, 16, "button"), page.scene.art(14, 480, 32, 48, 48, OrigRefFillColour=BLUE)
-    page.scene.variable(20, 60), page.scene.variable(21, 100)
+    page.scene.rectangle(10, 24, 32, 36, 48, RED)
+    page.scene.words(11, 120, 32, 96, 16, "text")
+    page.scene.field(12, 240, 32, 96, 16, "field")
+    page.scene.button(13, 360, 32, 96, 16, "button")
+    page.scene.art(14, 480, 32, 48, 48, OrigRefFillColour=BLUE)
+    page.scene.variable(20, 60)
+    page.scene.variable(21, 100)
     numbers = (10, 11, 12, 13, 14)
     page.on("red", *[act("SetPosition", number, 24 * number - 200, 120) for number in numbers])
     page.on("green", *[act("SetBoxSize", number, 24, 16) for number in numbers])
@@ -106,7 +118,8 @@ def not_on_the_stack():
                 continue
             page = Page(log=False)
             four_boxes(page)
-            page.on("red", act(prior, 11)), page.on("green", act("Run", 11))
+            page.on("red", act(prior, 11))
+            page.on("green", act("Run", 11))
             page.on("yellow", act("BringToFront", 11), act("PutBefore", 10, 11), act("SendToBack", 11), act("PutBehind", 13, 11))
             for key, action in (("blue", act("PutBefore", 11, 13)), ("1", act("PutBehind", 11, 10)), ("2", act("BringToFront", 11)), ("3", act("SendToBack", 11))):
                 page.on(key, action)
@@ -116,8 +129,11 @@ def not_on_the_stack():
 def on_top():
     page = Page(log=False)
     four_boxes(page)
-    page.on("red", act("Stop", 10), act("Run", 10)), page.on("green", act("Unload", 11), act("Preload", 11)), page.on("yellow", act("Run", 11))
-    page.on("blue", act("Stop", 13)), page.on("1", act("Run", 13))
+    page.on("red", act("Stop", 10), act("Run", 10))
+    page.on("green", act("Unload", 11), act("Preload", 11))
+    page.on("yellow", act("Run", 11))
+    page.on("blue", act("Stop", 13))
+    page.on("1", act("Run", 13))
     yield page.case("on-top", "What becomes available goes on top; one that stops keeps its place", "red green yellow blue 1")
 
 
@@ -128,7 +144,10 @@ def hides():
     page.scene.words(11, 60, 32, 120, 16, "x x", TextColour=YELLOW)
     page.scene.rectangle(12, 120, 32, 60, 16, RED)
     page.scene.rectangle(13, 24, 32, 60, 16, CLEAR)
-    page.on("red", act("BringToFront", 10)), page.on("green", act("BringToFront", 11)), page.on("yellow", act("SendToBack", 12)), page.on("blue", act("BringToFront", 13), act("BringToFront", 12))
+    page.on("red", act("BringToFront", 10))
+    page.on("green", act("BringToFront", 11))
+    page.on("yellow", act("SendToBack", 12))
+    page.on("blue", act("BringToFront", 13), act("BringToFront", 12))
     yield page.case("characters-and-boxes", "A box hides the characters below it; a text without background stands before the colour below; a transparent box hides nothing", "red green yellow blue")
 
 

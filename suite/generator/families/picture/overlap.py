@@ -4,9 +4,9 @@ The boxes, colours and changes are drawn by lot, from a number that is the case'
 """
 import random
 
-from ..family import Family
-from ..page import Page
-from ..words import BLUE, CLEAR, CYAN, GREEN, GREY, MAGENTA, ORANGE, RED, WHITE, YELLOW, Raw, act
+from ...family import Family
+from ...page import Page
+from ...words import BLUE, CLEAR, CYAN, GREEN, GREY, MAGENTA, ORANGE, RED, WHITE, YELLOW, Raw, act
 
 FAMILY = Family("overlap", "Many visibles over one another, changed again and again", "The picture; The display stack", "Attributes 13 to 24; actions 26 to 42",
                 "ISO/IEC 13522-5, Visible class: presentation and the display stack")
@@ -40,7 +40,10 @@ class Lot:
         """One visible of some class."""
         x, y, w, h = self.box()
         kind = self.of(["Rectangle", "Rectangle", "Text", "Text", "DynamicLineArt", "EntryField", "PushButton"])
-        look = {"BackgroundColour": self.of(TONES), "TextColour": self.of(TONES), "HJustification": Raw(self.of(["start", "end", "centre"])), "TextWrapping": self.of([True, False])}
+        look = {
+            "BackgroundColour": self.of(TONES), "TextColour": self.of(TONES), "HJustification": Raw(self.of(["start", "end", "centre"])),
+            "TextWrapping": self.of([True, False]),
+        }
         if kind == "Rectangle":
             scene.rectangle(number, x, y, w, h, self.of(TONES), line=self.of(TONES), width=self.of([0, 1, 2]))
         elif kind == "DynamicLineArt":
@@ -55,8 +58,11 @@ class Lot:
         """One change of a visible."""
         other = 10 + self.random.randrange(count)
         point = lambda: self.random.randint(-60, 300)
-        choices = [act("SetPosition", number, *self.corner()), act("SetBoxSize", number, *self.size()), act("BringToFront", number), act("SendToBack", number), act("PutBefore", number, other),
-                   act("PutBehind", number, other), act("Stop", number), act("Run", number), act("Unload", number), act("Preload", number)]
+        choices = [
+            act("SetPosition", number, *self.corner()), act("SetBoxSize", number, *self.size()), act("BringToFront", number),
+            act("SendToBack", number), act("PutBefore", number, other), act("PutBehind", number, other), act("Stop", number), act("Run", number),
+            act("Unload", number), act("Preload", number),
+        ]
         if kind in ("Rectangle", "DynamicLineArt"):
             choices += [act("SetFillColour", number, self.of(TONES)), act("SetLineColour", number, self.of(TONES)), act("SetLineWidth", number, self.of([0, 1]))]
         if kind == "DynamicLineArt":

@@ -1,8 +1,8 @@
 """Names of groups and files: which paths they lead to."""
-from ..case import Case
-from ..family import Family
-from ..page import Page
-from ..words import GREEN, RED, Raw, act, ref
+from ...case import Case
+from ...family import Family
+from ...page import Page
+from ...words import GREEN, RED, Raw, act, ref
 
 FAMILY = Family("names", "Names of groups and files", "What there is: A service", "Names",
                 "ISO/IEC 13522-5, object references and group identifiers; ETSI ES 202 184: name mapping, DSM: and relative names")
@@ -61,7 +61,8 @@ def others():
     page.scene.rectangle(10, 24, 32, 24, 32, RED)
     page.group("never").words(10, 0, 0, 24, 16, "never")
     page.files = {"note": b"no group of the service"}
-    page.on("red", act("SetPosition", ref("s", 10), 240, 32)), page.on("green", act("TransitionTo", Raw('("t" 0)')))
+    page.on("red", act("SetPosition", ref("s", 10), 240, 32))
+    page.on("green", act("TransitionTo", Raw('("t" 0)')))
     yield page.case("two-groups", "Objects of two groups may have one number", "red green")
 
 

@@ -1,9 +1,9 @@
 """The notations of files that can be read: what may be written in which way."""
-from ..binary import encoded
-from ..case import Case
-from ..family import Family
-from ..page import Page
-from ..words import BLUE, GREEN, RED, act
+from ...binary import encoded
+from ...case import Case
+from ...family import Family
+from ...page import Page
+from ...words import BLUE, GREEN, RED, act
 
 FAMILY = Family("notation", "What the two notations allow", "What there is: A service", "The textual notation; The binary notation",
                 "ISO/IEC 13522-5, annexes: textual notation and ASN.1; ITU-T X.690: distinguished encoding rules")
@@ -72,7 +72,7 @@ TWINS = ("indirect/visibles", "indirect/drawings", "indirect/fields", "indirect/
 
 def twins():
     """Cases of other families, whose groups are binary here."""
-    from . import all_cases
+    from .. import all_cases
     for case in all_cases(only={name.partition("/")[0] for name in TWINS}):
         if case.id in TWINS:
             service = {path: encoded(text) for path, text in case.service.items()}
@@ -83,17 +83,26 @@ def bounds():
     """The least and the largest value of each attribute that has them."""
     page = Page(log=False, SceneCS=(720, 576), InputEventReg=-2147483648)
     page.scene.rectangle(9, 12, 16, 600, 200, RED)
-    page.scene.rectangle(10, 24, 32, 0, 16, GREEN, line=BLUE), page.scene.rectangle(11, 60, 32, 24, 0, GREEN, line=BLUE, width=0), page.scene.rectangle(12, 96, 32, 0, 0, GREEN, width=2147483647)
-    page.scene.rectangle(13, -2147483648, 2147483647, 2147483647, 2147483647, GREEN), page.scene.words(14, 24, 64, 0, 16, "none"), page.scene.art(15, 60, 64, 24, 0, OrigLineWidth=0)
-    page.scene.field(16, 24, 96, 120, 16, "1", MaxLength=1), page.scene.field(17, 24, 128, 120, 16, "255", MaxLength=255), page.scene.button(18, 24, 160, 0, 0, "x")
-    page.on("red", *[act("SetBoxSize", number, 24, 16) for number in (10, 11, 12, 14, 15, 18)]), page.on("green", act("SetInteractionStatus", 16, True)), page.on("yellow", act("SetInteractionStatus", 17, True))
+    page.scene.rectangle(10, 24, 32, 0, 16, GREEN, line=BLUE)
+    page.scene.rectangle(11, 60, 32, 24, 0, GREEN, line=BLUE, width=0)
+    page.scene.rectangle(12, 96, 32, 0, 0, GREEN, width=2147483647)
+    page.scene.rectangle(13, -2147483648, 2147483647, 2147483647, 2147483647, GREEN)
+    page.scene.words(14, 24, 64, 0, 16, "none")
+    page.scene.art(15, 60, 64, 24, 0, OrigLineWidth=0)
+    page.scene.field(16, 24, 96, 120, 16, "1", MaxLength=1)
+    page.scene.field(17, 24, 128, 120, 16, "255", MaxLength=255)
+    page.scene.button(18, 24, 160, 0, 0, "x")
+    page.on("red", *[act("SetBoxSize", number, 24, 16) for number in (10, 11, 12, 14, 15, 18)])
+    page.on("green", act("SetInteractionStatus", 16, True))
+    page.on("yellow", act("SetInteractionStatus", 17, True))
     page.ask(10, 12, 13, 16)
     yield from both(page, "bounds", "The least and the largest values that attributes may have", "red text green 2 select yellow 6 select")
 
 
 def mixed():
     page = Page()
-    page.scene.rectangle(10, 24, 32, 24, 32, RED), page.on("red", act("SetPosition", 10, 240, 32))
+    page.scene.rectangle(10, 24, 32, 24, 32, RED)
+    page.on("red", act("SetPosition", 10, 240, 32))
     groups = {group.path: group.text().encode() for group in page._assembled()}
     yield Case("mixed", "An application in one notation, its scene in the other", "red", {"a": groups["a"], "s": encoded(groups["s"])}, {}, [])
     yield Case("mixed-otherwise", "An application in one notation, its scene in the other", "red", {"a": encoded(groups["a"]), "s": groups["s"]}, {}, [])

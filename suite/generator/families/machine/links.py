@@ -1,8 +1,8 @@
 """Links: which event a link matches, in which order links work, and which event is dealt with when."""
-from ..family import Family
-from ..page import Page
-from ..tables import EVENTS, LATER
-from ..words import RED, Raw, act, held, ref, typed
+from ...family import Family
+from ...page import Page
+from ...tables import EVENTS, LATER
+from ...words import RED, Raw, act, held, ref, typed
 
 FAMILY = Family("links", "Links and events: matching, data, order", "Items: what the work list holds (Emit); Taking, steps, posts, runs", "Events",
                 "ISO/IEC 13522-5, Link class: link condition and link effect; event processing")
@@ -14,7 +14,7 @@ def sent():
     for place, event in enumerate(names):
         page = Page()
         page.scene.rectangle(10, 24, 32, 24, 32, RED)
-        for other in {event, names[place - 1], names[(place + 1) % len(names)]}:
+        for other in (names[place - 1], event, names[(place + 1) % len(names)]):
             page.log(10, other, "%d" % EVENTS[other])
             page.log(10, other, "%d+" % EVENTS[other], True)
             page.log(10, other, "%d=7" % EVENTS[other], 7)
@@ -35,7 +35,8 @@ def data_kinds():
         page.on(key, act("SendEvent", 0, 10, Raw("TestEvent"), given))
     page.on("1", act("SendEvent", 0, 10, Raw("TestEvent"), -1))
     page.on("2", act("SendEvent", 0, 10, Raw("TestEvent")))
-    page.scene.variable(30, 1), page.scene.variable(31, True)
+    page.scene.variable(30, 1)
+    page.scene.variable(31, True)
     page.on("3", act("SendEvent", 0, 10, Raw("TestEvent"), held(30)), act("SendEvent", 0, 10, Raw("TestEvent"), held(31)))
     yield page.case("data", "A link with data hears the same data of the same kind alone: true is not 1, and no data is neither", "red green yellow blue 1 2 3")
 
@@ -45,8 +46,11 @@ def sources():
     for number in (10, 11):
         page.scene.rectangle(number, 24 * number - 216, 32, 24, 32, RED)
     page.scene.refers(30, 11)
-    page.log(10, "TestEvent", "10"), page.log(11, "TestEvent", "11"), page.log(0, "TestEvent", "scene")
-    page.log(ref("a", 0), "TestEvent", "app"), page.log(ref("a", 40), "TestEvent", "app40")
+    page.log(10, "TestEvent", "10")
+    page.log(11, "TestEvent", "11")
+    page.log(0, "TestEvent", "scene")
+    page.log(ref("a", 0), "TestEvent", "app")
+    page.log(ref("a", 40), "TestEvent", "app40")
     page.app.variable(40, 0)
     page.on("red", act("SendEvent", 0, 10, Raw("TestEvent")), act("SendEvent", ref("a", 0), 11, Raw("TestEvent")))
     page.on("green", act("SendEvent", 0, 0, Raw("TestEvent")), act("SendEvent", 0, ref("a", 0), Raw("TestEvent")))
@@ -60,7 +64,8 @@ def order_in_groups():
     for number, word in ((601, "app1"), (602, "app2")):
         page.app.link(ref("s", 0), "UserInput", [act("Append", ref("s", 900), word + "."), act("SetData", ref("s", 901), held(ref("s", 900)))],
                       100, number=number, Shared=True)
-    page.on("red", *page.noted("s1")), page.on("red", *page.noted("s2"))
+    page.on("red", *page.noted("s1"))
+    page.on("red", *page.noted("s2"))
     page.scene.link(0, "UserInput", page.noted("any"))
     page.on("red", *page.noted("s3"))
     yield page.case("order", "Links of the application work before those of the scene, each group's in Items order", "red green red")
@@ -79,7 +84,8 @@ def settled():
 def depth():
     """An event at once is dealt with before the actions behind the one that told it; one that waits, behind all work."""
     page = Page()
-    page.scene.variable(30, 0), page.scene.button(10, 24, 32, 96, 16, "b")
+    page.scene.variable(30, 0)
+    page.scene.button(10, 24, 32, 96, 16, "b")
     page.scene.link(30, "TestEvent", page.noted("t") + [act("SetHighlightStatus", 10, True)] + page.noted("u"), True)
     page.scene.link(10, "HighlightOn", page.noted("h") + [act("SendEvent", 0, 10, Raw("EngineEvent"), 1)] + page.noted("i"))
     page.scene.link(10, "EngineEvent", page.noted("e") + [act("SendEvent", 0, 10, Raw("StreamEvent"), 1)] + page.noted("f"), 1)

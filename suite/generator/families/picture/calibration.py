@@ -1,7 +1,7 @@
 """Calibration: a page with every character and every colour of the suite, for who captures pictures."""
-from ..family import Family
-from ..page import Page
-from ..words import BLACK, BLUE, CYAN, GREEN, GREY, MAGENTA, ORANGE, RED, WHITE, YELLOW
+from ...family import Family
+from ...page import Page
+from ...words import BLACK, BLUE, CYAN, GREEN, GREY, MAGENTA, ORANGE, RED, WHITE, YELLOW
 
 FAMILY = Family("calibration", "The page from which a reader of captured pictures learns", "The picture", "Attributes 13 to 22", "none: a tool of the suite")
 

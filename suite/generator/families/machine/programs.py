@@ -1,7 +1,7 @@
 """Resident programs: what the six answer, and how they are called."""
-from ..family import Family
-from ..page import Page
-from ..words import Raw, act, held, quoted, typed
+from ...family import Family
+from ...page import Page
+from ...words import Raw, act, held, quoted, typed
 
 FAMILY = Family("programs", "Resident programs", "Programs; Actions (Call, Fork)", "Resident programs; Actions 24 and 25",
                 "ISO/IEC 13522-5, ResidentProgram class: Call, Fork, AsyncStopped; ETSI ES 202 184: resident programs")
@@ -19,8 +19,13 @@ def words(*given):
 
 def a_page(program):
     page = Page()
-    page.scene.add("ResidentPrg", 10, Name=program), page.scene.variable(11, False), page.scene.variable(12, "old"), page.scene.variable(13, -9), page.scene.variable(14, -9)
-    page.scene.variable(15, ""), page.scene.variable(16, "")
+    page.scene.add("ResidentPrg", 10, Name=program)
+    page.scene.variable(11, False)
+    page.scene.variable(12, "old")
+    page.scene.variable(13, -9)
+    page.scene.variable(14, -9)
+    page.scene.variable(15, "")
+    page.scene.variable(16, "")
     page.watch(10)
     return page
 
@@ -36,7 +41,11 @@ def answers(page, *outs):
     return said + [act("SetData", 901, held(900))]
 
 
-CUTS = {"within": [(1, 2), (0, 2), (2, 4), (6, 6), (1, 6)], "beyond": [(-5, 2), (3, 99), (0, 0), (-3, -1), (7, 9), (6, 7)], "empty": [(3, 2), (5, 1), (7, 6), (1, 0), (2147483647, 2147483647), (-2147483648, 2147483647)]}
+CUTS = {
+    "within": [(1, 2), (0, 2), (2, 4), (6, 6), (1, 6)],
+    "beyond": [(-5, 2), (3, 99), (0, 0), (-3, -1), (7, 9), (6, 7)],
+    "empty": [(3, 2), (5, 1), (7, 6), (1, 0), (2147483647, 2147483647), (-2147483648, 2147483647)],
+}
 PLACES = {"found": [("abcabc", 1, "a"), ("abcabc", 2, "a"), ("abcabc", 4, "abc"), ("aaaa", 2, "aa"), ("abcabc", 3, "c"), ("aab", 1, "ab"), ("xaxab", 1, "ab")],
           "not-found": [("abc", 1, "d"), ("abc", 4, "c"), ("abc", 3, "bc"), ("ab", 1, "abc"), ("", 1, "a"), ("abcab", 4, "abc"), ("abc", 3, "cd")],
           "starts": [("abc", 0, "a"), ("abc", -9, "b"), ("abc", 99, "a"), ("abc", 3, "c"), ("abc", 2147483647, ""), ("abc", -2147483648, "c")],
@@ -73,7 +82,8 @@ def lengths():
     said = []
     for text in ("", "a", "abc", b"\xe2\x82\xac", b"a\x00b"):
         said += [act("Call", 10, 11, words(text, (INTEGER, 13)))] + answers(page, 13)
-    page.on("red", *said), page.on("green", act("Call", 10, 11, words((TEXT, 17), (INTEGER, 13))), *answers(page, 13))
+    page.on("red", *said)
+    page.on("green", act("Call", 10, 11, words((TEXT, 17), (INTEGER, 13))), *answers(page, 13))
     yield page.case("gsl", "GSL: how many octets there are", "red green")
 
 
@@ -118,8 +128,11 @@ def unknown():
 
 
 def misfit():
-    wrong = [words("abc"), words("abc", (INTEGER, 13), (INTEGER, 13)), words(5, (INTEGER, 13)), words("abc", (TEXT, 12)), words("abc", 5), Raw("( )"), Raw("( :GBoolean true :GInteger :IndirectRef 13 )"),
-             Raw("( :GOctetString :IndirectRef 13 :GInteger :IndirectRef 13 )"), Raw("( :GOctetString 'abc' :GInteger :IndirectRef 12 )")]
+    wrong = [
+        words("abc"), words("abc", (INTEGER, 13), (INTEGER, 13)), words(5, (INTEGER, 13)), words("abc", (TEXT, 12)), words("abc", 5), Raw("( )"),
+        Raw("( :GBoolean true :GInteger :IndirectRef 13 )"), Raw("( :GOctetString :IndirectRef 13 :GInteger :IndirectRef 13 )"),
+        Raw("( :GOctetString 'abc' :GInteger :IndirectRef 12 )"),
+    ]
     page = a_page("GSL")
     page.watch(11)
     for key, arguments in enumerate(wrong, 1):

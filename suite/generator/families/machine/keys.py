@@ -1,7 +1,7 @@
 """Keys: their numbers, and which of them a scene's register lets through."""
-from ..family import Family
-from ..page import Page
-from ..words import KEYS, act, held, ref
+from ...family import Family
+from ...page import Page
+from ...words import KEYS, act, held, ref
 
 FAMILY = Family("keys", "Keys and registers", "Interaction and keys; Taking, steps, posts, runs", "Keys and registers",
                 "ISO/IEC 13522-5, Scene class: InputEventRegister; ETSI ES 202 184: user input, registers and key codes")
@@ -25,7 +25,9 @@ def changed():
     page = Page(InputEventReg=3)
     feed = shown_keys(page)
     page.scene.variable(30, 5)
-    page.on("red", act("SetInputRegister", 0, 4)), page.on("green", act("SetInputRegister", 0, held(30))), page.on("yellow", act("SetInputRegister", 0, 3))
+    page.on("red", act("SetInputRegister", 0, 4))
+    page.on("green", act("SetInputRegister", 0, held(30)))
+    page.on("yellow", act("SetInputRegister", 0, 3))
     page.on("blue", act("SetInputRegister", 0, 99))
     yield page.case("changed", "SetInputRegister: the register is that of the moment in which the key is taken",
                     "1 up red 1 up select green 1 up cancel yellow 1 select text blue 1 up")
@@ -40,7 +42,9 @@ def of_the_scene():
         other.link(0, "UserInput", [act("SetData", 10, "t " + key)], KEYS[key])
     other.link(0, "UserInput", [act("TransitionTo", ref("s", 0))], KEYS["green"])
     other.link(0, "UserInput", [act("SetInputRegister", 0, 3)], KEYS["yellow"])
-    page.on("green", act("TransitionTo", ref("t", 0))), page.log(0, "UserInput", "1", 6), page.log(0, "UserInput", "red", 100)
+    page.on("green", act("TransitionTo", ref("t", 0)))
+    page.log(0, "UserInput", "1", 6)
+    page.log(0, "UserInput", "red", 100)
     yield page.case("each-scene", "Each scene has its own register, which is the written one again when it is entered",
                     "1 red green 1 select red yellow 1 select red green 1 green 1")
 

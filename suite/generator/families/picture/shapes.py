@@ -1,7 +1,7 @@
 """Shapes: rectangles with their lines, colours and transparency, and drawings on a DynamicLineArt."""
-from ..family import Family
-from ..page import Page
-from ..words import BLACK, BLUE, CLEAR, GREEN, GREY, ORANGE, RED, WHITE, YELLOW, act, colour, held
+from ...family import Family
+from ...page import Page
+from ...words import BLACK, BLUE, CLEAR, GREEN, GREY, ORANGE, RED, WHITE, YELLOW, act, colour, held
 
 FAMILY = Family("shapes", "Rectangles, colours and drawings", "The picture; Actions 34 to 39", "Actions 34 to 39; attributes 15 to 17",
                 "ISO/IEC 13522-5, LineArt, Rectangle and DynamicLineArt classes")
@@ -14,7 +14,8 @@ def lines():
             fields = {} if width is None else {"OrigLineWidth": width}
             page.scene.add("Rectangle", 10 + place, OrigBoxSize=(w, h), OrigPosition=(24 + 84 * place, 32), OrigRefLineColour=GREEN, OrigRefFillColour=RED, **fields)
         page.scene.variable(30, 1)
-        page.on("red", *[act("SetLineWidth", 10 + place, 1) for place in range(7)]), page.on("green", *[act("SetLineWidth", 10 + place, 0) for place in range(7)])
+        page.on("red", *[act("SetLineWidth", 10 + place, 1) for place in range(7)])
+        page.on("green", *[act("SetLineWidth", 10 + place, 0) for place in range(7)])
         page.on("yellow", *[act("SetLineWidth", 10 + place, -1) for place in range(7)], act("SetLineWidth", 10, held(30)))
         yield page.case("line-%s" % ("unwritten" if width is None else width), "The edge cells of a Rectangle have its line colour where its line is wider than 0", "red green yellow")
 
@@ -49,15 +50,21 @@ def colours():
 
 def recoloured():
     page = Page(log=False)
-    page.scene.rectangle(10, 24, 32, 60, 64, RED, line=GREEN), page.scene.art(11, 120, 32, 60, 64, OrigRefFillColour=RED)
-    page.scene.words(12, 216, 32, 96, 16, "text"), page.scene.field(13, 216, 64, 96, 16, "12"), page.scene.button(14, 216, 96, 96, 16, "push")
-    page.scene.variable(20, ORANGE), page.scene.variable(21, b"\x00\x00"), page.scene.variable(22, CLEAR)
+    page.scene.rectangle(10, 24, 32, 60, 64, RED, line=GREEN)
+    page.scene.art(11, 120, 32, 60, 64, OrigRefFillColour=RED)
+    page.scene.words(12, 216, 32, 96, 16, "text")
+    page.scene.field(13, 216, 64, 96, 16, "12")
+    page.scene.button(14, 216, 96, 96, 16, "push")
+    page.scene.variable(20, ORANGE)
+    page.scene.variable(21, b"\x00\x00")
+    page.scene.variable(22, CLEAR)
     page.on("red", act("SetFillColour", 10, BLUE), act("SetFillColour", 11, BLUE), *[act("SetTextColour", number, RED) for number in (12, 13, 14)])
     page.on("green", act("SetLineColour", 10, held(20)), act("SetLineColour", 11, held(20)), *[act("SetTextColour", number, held(20)) for number in (12, 13, 14)])
     page.on("yellow", *[act(action, 10, given) for action in ("SetFillColour", "SetLineColour") for given in (b"", b"\x01", held(21), b"12345")],
             *[act("SetTextColour", number, given) for number in (12, 13, 14) for given in (b"", b"abc", held(21), b"12345")])
     page.on("blue", act("SetFillColour", 10, held(22)), act("SetTextColour", 12, held(22)), act("SetTextColour", 14, held(22)))
-    page.on("1", act("SetLineColour", 10, CLEAR), act("SetFillColour", 10, YELLOW)), page.on("2", act("DrawLine", 11, 0, 0, 60, 64))
+    page.on("1", act("SetLineColour", 10, CLEAR), act("SetFillColour", 10, YELLOW))
+    page.on("2", act("DrawLine", 11, 0, 0, 60, 64))
     yield page.case("recoloured", "SetFillColour, SetLineColour, SetTextColour: four octets are a colour, anything else changes nothing", "red green yellow blue 1 2")
 
 
@@ -80,7 +87,9 @@ def strokes():
             for place, points in enumerate(part):
                 said += [act("SetLineColour", 10, TONES[place + (0 if key == "red" else 2)]), act("DrawLine", 10, *points)]
             page.on(key, *said)
-        page.on("yellow", act("SetPosition", 10, 31, 41)), page.on("blue", act("SetBoxSize", 10, 150, 100)), page.on("1", act("SetPosition", 10, -30, -20))
+        page.on("yellow", act("SetPosition", 10, 31, 41))
+        page.on("blue", act("SetBoxSize", 10, 150, 100))
+        page.on("1", act("SetPosition", 10, -30, -20))
         yield page.case("lines-" + name, "A drawn line goes from the cell of its one end to that of the other, in equal steps, each to the nearest cell", "red green yellow blue 1")
 
 
@@ -97,7 +106,8 @@ def drawn_rectangles():
             for place, points in enumerate(corners):
                 said += [act("SetFillColour", 10, TONES[place % 6]), act("DrawRectangle", 10, *points)]
             page.on(key, *said)
-        page.on("yellow", act("Clear", 10)), page.on("blue", act("SetPosition", 10, 30, 40))
+        page.on("yellow", act("Clear", 10))
+        page.on("blue", act("SetPosition", 10, 30, 40))
         page.on("1", *[act("DrawLine", 10, *points) for points in corners])
         page.on("2", act("SetLineColour", 10, GREEN), *[act("DrawRectangle", 10, *points) for points in corners])
         yield page.case("rectangles-" + name, "A drawn rectangle is painted as a Rectangle of its place and size, with the width and the colours of its moment", "red green blue yellow 1 2 yellow")
@@ -105,9 +115,13 @@ def drawn_rectangles():
 
 def drawings_kept():
     page = Page(log=False)
-    page.scene.art(10, 24, 32, 240, 160, OrigRefFillColour=GREY), page.scene.rectangle(11, 60, 64, 48, 48, RED), page.scene.variable(20, 36)
+    page.scene.art(10, 24, 32, 240, 160, OrigRefFillColour=GREY)
+    page.scene.rectangle(11, 60, 64, 48, 48, RED)
+    page.scene.variable(20, 36)
     page.on("red", act("SetFillColour", 10, GREEN), act("SetLineColour", 10, YELLOW), act("DrawRectangle", 10, 0, 0, 120, 64), act("SetLineColour", 10, WHITE), act("DrawLine", 10, 0, 0, 120, 64))
-    page.on("green", act("Unload", 10)), page.on("yellow", act("Run", 10)), page.on("blue", act("SendToBack", 10))
+    page.on("green", act("Unload", 10))
+    page.on("yellow", act("Run", 10))
+    page.on("blue", act("SendToBack", 10))
     page.on("1", act("SetFillColour", 10, CLEAR), act("SetLineColour", 10, CLEAR), act("DrawRectangle", 10, 24, 16, 96, 96), act("DrawLine", 10, 0, 16, 240, 16))
     page.on("2", act("DrawRectangle", 10, held(20), held(20), 120, 100), act("DrawLine", 10, 0, 0, held(20), held(20)))
     page.on("3", act("Clear", 10), act("DrawLine", 10, 0, 0, 100, 100))
@@ -128,13 +142,18 @@ def as_many_as_there_may_be():
 
 def that_paint_nothing():
     """Drawings without a colour, and rectangles of no width, count among the 256 too; what changes nothing does not."""
-    wasted = {"no-width": act("DrawRectangle", 10, 24, 0, 24, 96), "no-height": act("DrawRectangle", 10, 0, 32, 96, 32), "no-colour": act("DrawLine", 10, 0, 0, 24, 32), "outside": act("DrawLine", 10, 5000, 0, 6000, 0),
-              "beyond": act("DrawLine", 10, 0, 0, 10001, 0), "backwards": act("DrawRectangle", 10, 24, 32, 23, 64), "upwards": act("DrawRectangle", 10, 24, 32, 64, 31)}
+    wasted = {
+        "no-width": act("DrawRectangle", 10, 24, 0, 24, 96), "no-height": act("DrawRectangle", 10, 0, 32, 96, 32),
+        "no-colour": act("DrawLine", 10, 0, 0, 24, 32), "outside": act("DrawLine", 10, 5000, 0, 6000, 0),
+        "beyond": act("DrawLine", 10, 0, 0, 10001, 0), "backwards": act("DrawRectangle", 10, 24, 32, 23, 64),
+        "upwards": act("DrawRectangle", 10, 24, 32, 64, 31),
+    }
     for name, action in wasted.items():
         page = Page(log=False)
         page.scene.art(10, 24, 32, 240, 160, OrigLineWidth=0, OrigRefFillColour=GREY)
         page.on("red", act("SetLineColour", 10, CLEAR), act("SetFillColour", 10, CLEAR), *[action] * 256)
-        page.on("green", act("SetLineColour", 10, YELLOW), act("DrawLine", 10, 0, 0, 200, 150)), page.on("yellow", act("Clear", 10))
+        page.on("green", act("SetLineColour", 10, YELLOW), act("DrawLine", 10, 0, 0, 200, 150))
+        page.on("yellow", act("Clear", 10))
         yield page.case("drawings-wasted-" + name, "A drawing that paints nothing counts among the 256; an action that changes nothing does not", "red green yellow green")
 
 

@@ -1,7 +1,7 @@
 """Running and available: what Run, Stop, Preload and Unload do to each class, from each state."""
-from ..family import Family
-from ..page import Page
-from ..words import GREEN, RED, WHITE, act
+from ...family import Family
+from ...page import Page
+from ...words import GREEN, RED, WHITE, act
 
 FAMILY = Family("states", "Available and running, of each class", "Items: what the work list holds; Actions 0 to 5", "Actions 0 to 5, 14 and 15",
                 "ISO/IEC 13522-5, Presentable and Visible classes: Preparation, Activation, Deactivation, Destruction")
@@ -58,14 +58,20 @@ def initially():
         for place, kind in enumerate(CLASSES[:6]):
             object_of(page, kind, 20 + place, **({} if written is None else {"InitiallyActive": written}))
         numbers = range(20, 26)
-        page.watch(*numbers), page.ask(*numbers)
-        page.on("red", *[act("Run", number) for number in numbers]), page.on("green", *[act("Stop", number) for number in numbers])
-        yield page.case("initially-%s" % {None: "unwritten", True: "active", False: "not-active"}[written], "What runs when its scene is entered, in Items order", "text green text red")
+        page.watch(*numbers)
+        page.ask(*numbers)
+        page.on("red", *[act("Run", number) for number in numbers])
+        page.on("green", *[act("Stop", number) for number in numbers])
+        yield page.case("initially-%s" % {
+            None: "unwritten", True: "active", False: "not-active",
+        }[written], "What runs when its scene is entered, in Items order", "text green text red")
     for kind in CLASSES[6:]:
         page = Page()
         object_of(page, kind)
-        page.watch(10, 11, 12), page.ask(10)
-        page.on("red", act("Run", 10)), page.on("green", act("Stop", 10))
+        page.watch(10, 11, 12)
+        page.ask(10)
+        page.on("red", act("Run", 10))
+        page.on("green", act("Stop", 10))
         yield page.case(kind.lower() + "-initially", "A %s runs when its scene is entered" % kind, "text green text red")
 
 
@@ -76,7 +82,9 @@ def again_between():
         object_of(page, kind)
         page.watch(10)
         page.scene.link(10, "IsStopped", [act("Run", 10)])
-        page.on("red", act("Unload", 10)), page.on("green", act("Run", 10)), page.on("yellow", act("Preload", 10))
+        page.on("red", act("Unload", 10))
+        page.on("green", act("Run", 10))
+        page.on("yellow", act("Preload", 10))
         page.ask(10)
         yield page.case(kind.lower() + "-run-while-unloaded", "What runs and is not available is not painted; Run does nothing then, Preload makes it available",
                         "text red text green text yellow text")
@@ -89,7 +97,8 @@ def kept_after_drop():
     page.on("red", act("SetPosition", 10, 240, 32), act("SetTextColour", 10, GREEN), act("SetData", 10, "new"), act("SetBoxSize", 11, 96, 16))
     page.on("green", act("Unload", 10), act("Unload", 11))
     page.on("yellow", act("Run", 10), act("Run", 11))
-    page.watch(10, 11), page.ask(10, 11)
+    page.watch(10, 11)
+    page.ask(10, 11)
     yield page.case("kept-after-unload", "What was changed stays when an object is unloaded; the text that was loaded goes", "red text green text yellow text")
 
 
@@ -100,7 +109,8 @@ def links():
     page.on("green", act("Activate", 20), act("Activate", 20))
     page.on("yellow", act("Deactivate", 20), act("Deactivate", 20))
     page.on("blue", act("SetData", 10, "clear"))
-    page.watch(20), page.ask(20)
+    page.watch(20)
+    page.ask(20)
     yield page.case("link-activated", "A link that is not active hears nothing; Activate and Deactivate run and halt it, once",
                     "red text green text red blue yellow text red green red")
 

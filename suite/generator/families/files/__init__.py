@@ -1,0 +1,1 @@
+"""Families of files: names, notations, what is refused."""

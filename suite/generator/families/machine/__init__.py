@@ -1,0 +1,1 @@
+"""Families of the machine: what runs, what hears, what holds which value."""

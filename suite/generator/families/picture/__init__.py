@@ -1,0 +1,1 @@
+"""Families of the picture: boxes, shapes, texts."""

@@ -1,0 +1,1 @@
+"""Families of widgets: fields, buttons, lists, token groups."""
