@@ -39,6 +39,10 @@ def of_services():
     instead = {"transition": b':TransitionTo (("../x" 0))', "source": b':EventSource ("x//y" 0)', "value": b':OrigValue ("./x" 10)', "member": b'( (("x/.." 11)) )', "slot": b'(:Run (("/" 10)))', "content": b':ContentRef ("~/x/")'}
     for name, there in places.items():
         yield Case("service-bad-name-" + name, "A name that is no path, in a " + name, "", scene(GOOD.replace(there, instead[name])), {}, [], refused=True)
+
+
+def of_limits():
+    scene = lambda text: {"a": START, "s": text}
     for count, bad in ((256, False), (257, True)):
         groups = dict(scene(GOOD), **{"g%d" % number: b'{:Scene ("~/g" 0) }' for number in range(count - 2)})
         yield Case("service-groups-%d" % count, "A service has at most 256 groups", "red", groups, {}, [], refused=bad)
@@ -91,5 +95,5 @@ def of_scenes_late():
 
 
 def cases():
-    for family in (in_text, in_binary, of_services, of_scenes_late):
+    for family in (in_text, in_binary, of_services, of_limits, of_scenes_late):
         yield from family()

@@ -115,56 +115,58 @@ def absent():
         yield page.case("absent-" + name, "What is not there is not done to, asked of or asked by (V1, V4): " + name, "red green yellow text", lenient=True)
 
 
+KINDS = {
+    "direct": [
+        act("SetVariable", 20, typed(1)), act("SetVariable", 21, typed(True)), act("SetVariable", 22, typed(True)),
+        act("SetVariable", 23, typed(5)), act("SetVariable", 20, typed("x")), act("SetVariable", 24, typed("x")),
+    ],
+    "tested": [
+        act("TestVariable", 20, 1, typed(1)), act("TestVariable", 21, 1, typed("5")), act("TestVariable", 22, 1, typed(5)),
+        act("TestVariable", 23, 1, typed(10)), act("TestVariable", 20, 3, typed(True)), act("TestVariable", 22, 5, typed("a")),
+    ],
+    "operators": [
+        act("TestVariable", 21, 0, typed(5)), act("TestVariable", 21, 7, typed(5)), act("TestVariable", 21, -1, typed(5)),
+        act("TestVariable", 20, 0, typed(True)), act("TestVariable", 23, 3, Raw(":GObjectRef 10")), act("TestVariable", 22, 6, typed("ab")),
+    ],
+    "operators-held": [
+        act("TestVariable", 21, held(41), typed(5)), act("TestVariable", 21, held(42), typed(5)), act("TestVariable", 20, held(43), typed(True)),
+        act("TestVariable", 21, held(43), typed(6)), act("TestVariable", 21, held(44), typed(5)), act("TestVariable", 22, held(40), typed("ab")),
+    ],
+    "indirect": [
+        act("SetPosition", 10, held(22), 32), act("SetPosition", 10, 32, held(20)), act("Add", 21, held(22)), act("Append", 22, held(21)),
+        act("SetTextColour", 11, held(21)), act("SetInteractionStatus", 13, held(21)),
+    ],
+    "typed": [
+        act("SetVariable", 21, Raw(":GInteger :IndirectRef 22")), act("SetVariable", 22, Raw(":GOctetString :IndirectRef 21")),
+        act("SetVariable", 20, Raw(":GBoolean :IndirectRef 21")), act("TestVariable", 21, 1, Raw(":GInteger :IndirectRef 22")),
+        act("SetVariable", 23, Raw(":GObjectRef :IndirectRef 24")), act("SetVariable", 22, Raw(":GInteger :IndirectRef 22")),
+    ],
+    "receivers": [
+        act("GetPosition", 10, 20, 21), act("GetPosition", 10, 21, 22), act("GetTextData", 11, 21), act("GetRunningStatus", 10, 21),
+        act("GetListSize", 16, 22), act("GetListItem", 16, 1, 21),
+    ],
+    "targets": [
+        act("SetPosition", held(21), 60, 60), act("Run", held(22)), act("SetData", held(20), "x"), act("SetPosition", held(10), 60, 60),
+        act("Stop", held(0)), act("SetPosition", held(24), 60, 60),
+    ],
+    "objects": [
+        act("PutBefore", 10, held(21)), act("PutBehind", 10, 20), act("PutBefore", 10, 15), act("AddItem", 16, 1, held(22)),
+        act("SendEvent", 0, held(21), Raw("TestEvent")), act("DelItem", 16, held(10)),
+    ],
+    "data": [
+        act("SendEvent", 0, 0, Raw("TestEvent"), held(22)), act("SendEvent", 0, 0, Raw("TestEvent"), held(23)), act("SetData", 11, held(21)),
+        act("SetData", 11, held(20)), act("SetTimer", 0, 1, held(22)), act("SetTimer", 0, 1, 500, held(21)),
+    ],
+    "groups": [
+        act("TransitionTo", ref("a", 0)), act("Launch", 0), act("Quit", 0), act("LockScreen", 0), act("TransitionTo", 10),
+        act("SetInputRegister", ref("a", 0), 3),
+    ],
+}
+
+
 def kinds():
     """Values and variables of another kind than is needed."""
-    ways = {
-        "direct": [
-            act("SetVariable", 20, typed(1)), act("SetVariable", 21, typed(True)), act("SetVariable", 22, typed(True)),
-            act("SetVariable", 23, typed(5)), act("SetVariable", 20, typed("x")), act("SetVariable", 24, typed("x")),
-        ],
-        "tested": [
-            act("TestVariable", 20, 1, typed(1)), act("TestVariable", 21, 1, typed("5")), act("TestVariable", 22, 1, typed(5)),
-            act("TestVariable", 23, 1, typed(10)), act("TestVariable", 20, 3, typed(True)), act("TestVariable", 22, 5, typed("a")),
-        ],
-        "operators": [
-            act("TestVariable", 21, 0, typed(5)), act("TestVariable", 21, 7, typed(5)), act("TestVariable", 21, -1, typed(5)),
-            act("TestVariable", 20, 0, typed(True)), act("TestVariable", 23, 3, Raw(":GObjectRef 10")), act("TestVariable", 22, 6, typed("ab")),
-        ],
-        "operators-held": [
-            act("TestVariable", 21, held(41), typed(5)), act("TestVariable", 21, held(42), typed(5)), act("TestVariable", 20, held(43), typed(True)),
-            act("TestVariable", 21, held(43), typed(6)), act("TestVariable", 21, held(44), typed(5)), act("TestVariable", 22, held(40), typed("ab")),
-        ],
-        "indirect": [
-            act("SetPosition", 10, held(22), 32), act("SetPosition", 10, 32, held(20)), act("Add", 21, held(22)), act("Append", 22, held(21)),
-            act("SetTextColour", 11, held(21)), act("SetInteractionStatus", 13, held(21)),
-        ],
-        "typed": [
-            act("SetVariable", 21, Raw(":GInteger :IndirectRef 22")), act("SetVariable", 22, Raw(":GOctetString :IndirectRef 21")),
-            act("SetVariable", 20, Raw(":GBoolean :IndirectRef 21")), act("TestVariable", 21, 1, Raw(":GInteger :IndirectRef 22")),
-            act("SetVariable", 23, Raw(":GObjectRef :IndirectRef 24")), act("SetVariable", 22, Raw(":GInteger :IndirectRef 22")),
-        ],
-        "receivers": [
-            act("GetPosition", 10, 20, 21), act("GetPosition", 10, 21, 22), act("GetTextData", 11, 21), act("GetRunningStatus", 10, 21),
-            act("GetListSize", 16, 22), act("GetListItem", 16, 1, 21),
-        ],
-        "targets": [
-            act("SetPosition", held(21), 60, 60), act("Run", held(22)), act("SetData", held(20), "x"), act("SetPosition", held(10), 60, 60),
-            act("Stop", held(0)), act("SetPosition", held(24), 60, 60),
-        ],
-        "objects": [
-            act("PutBefore", 10, held(21)), act("PutBehind", 10, 20), act("PutBefore", 10, 15), act("AddItem", 16, 1, held(22)),
-            act("SendEvent", 0, held(21), Raw("TestEvent")), act("DelItem", 16, held(10)),
-        ],
-        "data": [
-            act("SendEvent", 0, 0, Raw("TestEvent"), held(22)), act("SendEvent", 0, 0, Raw("TestEvent"), held(23)), act("SetData", 11, held(21)),
-            act("SetData", 11, held(20)), act("SetTimer", 0, 1, held(22)), act("SetTimer", 0, 1, 500, held(21)),
-        ],
-        "groups": [
-            act("TransitionTo", ref("a", 0)), act("Launch", 0), act("Quit", 0), act("LockScreen", 0), act("TransitionTo", 10),
-            act("SetInputRegister", ref("a", 0), 3),
-        ],
-    }
-    for name, actions in ways.items():
+    for name, actions in KINDS.items():
         page = a_page()
         for place, operator in enumerate((1, 0, 7, 3, -1)):
             page.scene.variable(40 + place, operator)
