@@ -1,0 +1,10 @@
+pub mod Whole
+pub mod PartLemmas
+pub mod PostLemmas
+pub mod PlayLemmas
+pub mod BringLemmas
+pub mod NeverLemmas
+pub mod SealLemmas
+pub mod StubLemmas
+pub mod SealedLemmas
+pub mod DigestLemmas

@@ -1,0 +1,6 @@
+pub mod Part
+pub mod Seal
+pub mod Stubs
+pub mod Bringing
+pub mod Sealed
+pub mod Digests
