@@ -4,3 +4,4 @@ pub mod ServiceLemmas
 pub mod Doubles
 pub mod OnceLemmas
 pub mod ContentLemmas
+pub mod FillLemmas

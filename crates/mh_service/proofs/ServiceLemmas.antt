@@ -89,7 +89,7 @@ group_class w h = by (is_group_class w.class) (fields_misfit w.class w.fields) (
 ingredients_in : (g : List ℕ) (w : Written) → is_group w ≡ true → list_all (is_ingredient_of g) (map (part_of g) (items_of w)) ≡ true
 ingredients_in g w h = plain_ingredients g (items_of w) (group_class w h).1
 
-group_list : (g : List ℕ) (w : Written) → is_group w ≡ true → is_group_list g (parts_of g w) ≡ true
+pub group_list : (g : List ℕ) (w : Written) → is_group w ≡ true → is_group_list g (parts_of g w) ≡ true
 group_list g w h = both_true (both_true (both_true (same_bytes g) refl) (group_class w h).0) (ingredients_in g w h)
 
 group_lists : (files : List File) → list_all (λ f. is_group f.1) files ≡ true → list_all (λ e. is_group_list e.0 e.1) (map resolved files) ≡ true
@@ -122,7 +122,7 @@ ingredients_apart g (i ∷ is) h =
     let two = neither_true (list_any (nat_eq i.number) (map (λ (j : Ingredient). j.number) is)) (has_double (map (λ (j : Ingredient). j.number) is)) h in
     both_true (ap not (keyed_number g i.number is ∙ two.0)) (ingredients_apart g is two.1)
 
-group_apart : (g : List ℕ) (w : Written) → is_group w ≡ true → has_double_number w ≡ false → are_apart (parts_of g w) ≡ true
+pub group_apart : (g : List ℕ) (w : Written) → is_group w ≡ true → has_double_number w ≡ false → are_apart (parts_of g w) ≡ true
 group_apart g w h k = both_true (ap not (own_key g (map (part_of g) (items_of w)) (ingredients_in g w h))) (ingredients_apart g (items_of w) k)
 
 groups_apart : (files : List File) → list_all (λ f. is_group f.1) files ≡ true → double_number files ≡ None → list_all (λ e. are_apart e.1) (map resolved files) ≡ true

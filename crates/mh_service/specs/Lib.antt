@@ -5,3 +5,4 @@ pub mod Refusals
 pub mod Numbers
 pub mod Wanted
 pub mod Contents
+pub mod Sealed

@@ -96,7 +96,10 @@ fn double_number(
 }
 
 #[tactic(auto, using(crate::proofs::Doubles::seen_nothing))]
-fn has_double_number(alloc: Global, ingredients: &[Ingredient]) -> Result<bool, AllocError>
+pub(crate) fn has_double_number(
+    alloc: Global,
+    ingredients: &[Ingredient],
+) -> Result<bool, AllocError>
     ensures { IfOk result (λ double. double ≡ has_double (map (λ i. i.number) ingredients.now)) }
 {
     let mut seen: IndexSet<u32> = IndexSet::new(alloc);

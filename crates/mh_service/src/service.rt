@@ -13,6 +13,8 @@ ghost use Rattle.mh_model.specs.Configuration.{is_service, has_keys, are_apart};
 ghost use Rattle.mh_service.specs.Resolved.{resolved, group_leads, parts_under};
 ghost use Rattle.mh_service.specs.Refusals.{Refuses, RefusesAt, for_reason, refusal_of, bad_reference, double_name};
 
+mod partial;
+
 use crate::{ServiceError, Why, refusing, resolving};
 use indexmap::IndexMap;
 use mh_base::{GroupName, NameError, ObjRef, Seq};
