@@ -23,9 +23,8 @@ use Rattle.mh_model.proofs.ListLemmas.{and_left, and_right}
 use Rattle.mh_model.proofs.ServiceLemmas.{of_service}
 use Rattle.mh_service.specs.Limits.{has_room, whole_room}
 use Rattle.mh_service.specs.Refusals.{File, has_double_number}
-use Rattle.mh_service.specs.Resolved.{group_leads, parts_of, resolved}
+use Rattle.mh_service.specs.Resolved.{group_leads, parts_of}
 use Rattle.mh_service.specs.Sealed.{unfilled_by, with_group}
-use Rattle.mh_service.specs.declared.sealed.UnfilledWhy.{UnfilledWhy}
 use Rattle.mh_service.specs.declared.sealed.UnfilledWhy.TheVariants as unfilled
 use Rattle.mh_service.specs.declared.service_error.Why.TheVariants as why
 use Rattle.mh_service.proofs.Lookups.{same_either_way}

@@ -1,5 +1,5 @@
 -- A service that is known in part: a stub, its group with its class alone, stands for each scene whose file is not there yet.
-use Rattle.std.specs.Prelude.{ℕ, Bool, ◌&&◌, not, if◌then◌else◌, List, [], ◌∷◌, filter, map, Option, Some, None, is_none, unwrap_or}
+use Rattle.std.specs.Prelude.{ℕ, ◌&&◌, not, if◌then◌else◌, List, [], filter, map, Option, Some, None, is_none, unwrap_or}
 use Rattle.std.specs.Str.{bytes_eq}
 use Rattle.mh_group.specs.declared.class.Class.TheVariants as class
 use Rattle.mh_group.specs.declared.written.Written.{Written}
@@ -13,7 +13,7 @@ use Rattle.mh_service.specs.declared.sealed.UnfilledWhy.TheVariants as unfilled
 use Rattle.mh_service.specs.declared.service_error.Why.TheVariants as why
 use Rattle.mh_service.specs.Limits.{has_room, whole_room}
 use Rattle.mh_service.specs.Refusals.{File, has_double_number}
-use Rattle.mh_service.specs.Resolved.{group_leads, parts_of}
+use Rattle.mh_service.specs.Resolved.{group_leads}
 
 -- the scene of which nothing is written
 abbrev pub stub : Written
