@@ -25,9 +25,14 @@ use Rattle.mh_model.specs.declared.object.Fixed.{Fixed}
 use Rattle.mh_model.specs.Late.{is_written_so, written_at}
 use Rattle.mh_model.specs.Service.{Service, group_parts}
 use Rattle.mh_model.proofs.ListLemmas.{and_left, and_right, some_same}
-use Rattle.mh_seal_laws.specs.Digests.{DigestsAgree, DigestsGoWell, GroupFile, IsSealable, brings_group, digest_of, digests, has_digest, is_collision, is_spelled, listed_at, meets_collision, seal_by}
+use Rattle.mh_service.specs.Refusals.{File as GroupFile}
+use Rattle.mh_service.specs.Resolved.{parts_of}
+use Rattle.mh_service.specs.Sealed.{with_group}
+use Rattle.mh_seal_laws.proofs.JoinLemmas.{parts_resolved}
+use Rattle.mh_seal_laws.specs.Digests.{DigestsAgree, DigestsGoWell, IsSealable, brings_group, digest_of, digests, has_digest, is_collision, is_spelled, listed_at, meets_collision, seal_by}
 use Rattle.mh_seal_laws.specs.Sealed.{Agrees, AgreesAt}
-use Rattle.mh_seal_laws.specs.Stubs.{seal_of, with_group}
+use Rattle.mh_seal_laws.specs.Stubs.{seal_of}
+use Rattle.mh_seal_laws.proofs.PlayLemmas.{not_false}
 use Rattle.mh_seal_laws.proofs.SealedLemmas.{goes_well}
 
 -- Bits
@@ -39,10 +44,6 @@ one_false false c e = refl
 other_false : (b c : Bool) → (b || c) ≡ false → c ≡ false
 other_false true c e = absurd cc
 other_false false c e = e
-
-not_false : (b : Bool) → not b ≡ false → b ≡ true
-not_false true e = refl
-not_false false e = absurd cc
 
 -- The files of a service
 
@@ -107,16 +108,16 @@ digest_tells tags digest table x y fit allowed spelled none = by (same_group x y
 
 -- One move, and all of them
 
-module _ (tags : Tags) (digest : List ℕ → List ℕ) (resolve : List ℕ → Written → List Fixed) (v : Service) (table : IsTable tags) (able : IsSealable tags digest resolve v) where
+module _ (tags : Tags) (digest : List ℕ → List ℕ) (v : Service) (table : IsTable tags) (able : IsSealable tags digest v) where
   fits_same : (g : List ℕ) (x : Written) → is_group x ≡ true → (m : Option Written) → written_at g v.files ≡ m → option_map_or (is_collision tags digest x) m false ≡ false → has_digest tags digest x (option_map (digest_of tags digest) m) ≡ is_written_so x m
   fits_same g x fit None e none = refl
   fits_same g x fit (Some y) e none = digest_tells tags digest table x y fit (written_passes is_group g v.files y able.groups e) (written_passes (is_spelled tags digest) g v.files y able.spelled e) none
 
-  grown_same : (g : List ℕ) (x : Written) → (m : Option Written) → written_at g v.files ≡ m → is_written_so x m ≡ true → resolve g x ≡ group_parts v g
+  grown_same : (g : List ℕ) (x : Written) → (m : Option Written) → written_at g v.files ≡ m → is_written_so x m ≡ true → parts_of g x ≡ group_parts v g
   grown_same g x None e h = absurd cc
-  grown_same g x (Some y) e h = sym (able.resolved g x (subst (λ (z : Written). written_at g v.files ≡ Some z) (sym (group_same x y h)) e))
+  grown_same g x (Some y) e h = sym (parts_resolved v g x able.files (subst (λ (z : Written). written_at g v.files ≡ Some z) (sym (group_same x y h)) e))
 
-  agrees_at : (m : Move) → brings_group m ≡ true → meets_collision tags digest v.files m ≡ false → AgreesAt (seal_by tags digest resolve (digests tags digest v.files)) (seal_of v) m
+  agrees_at : (m : Move) → brings_group m ≡ true → meets_collision tags digest v.files m ≡ false → AgreesAt (seal_by tags digest (digests tags digest v.files)) (seal_of v) m
   agrees_at (move.Post (input.Scene g x)) fit none = (ap (has_digest tags digest x) (listed_so tags digest g v.files) ∙ fits_same g x fit (written_at g v.files) refl none, λ h w. ap (λ (ps : List Fixed). with_group g ps w) (grown_same g x (written_at g v.files) refl h))
   agrees_at (move.Post (input.Key k)) fit none = tt
   agrees_at (move.Post (input.Tick n)) fit none = tt
@@ -125,7 +126,7 @@ module _ (tags : Tags) (digest : List ℕ → List ℕ) (resolve : List ℕ → 
   agrees_at (move.Post (input.Arrive f)) fit none = tt
   agrees_at move.Step fit none = tt
 
-  all_agree : (ms : List Move) → list_all brings_group ms ≡ true → list_any (meets_collision tags digest v.files) ms ≡ false → Agrees (seal_by tags digest resolve (digests tags digest v.files)) (seal_of v) ms
+  all_agree : (ms : List Move) → list_all brings_group ms ≡ true → list_any (meets_collision tags digest v.files) ms ≡ false → Agrees (seal_by tags digest (digests tags digest v.files)) (seal_of v) ms
   all_agree [] fit none = tt
   all_agree (m ∷ ms) fit none =
       let one = meets_collision tags digest v.files m in
@@ -133,8 +134,8 @@ module _ (tags : Tags) (digest : List ℕ → List ℕ) (resolve : List ℕ → 
       (agrees_at m (and_left (brings_group m) (list_all brings_group ms) fit) (one_false one rest none), all_agree ms (and_right (brings_group m) (list_all brings_group ms) fit) (other_false one rest none))
 
 pub digests_agree : DigestsAgree
-digests_agree tags digest resolve v table able ms fit none = all_agree tags digest resolve v table able ms fit none
+digests_agree tags digest v table able ms fit none = all_agree tags digest v table able ms fit none
 
 pub digests_go_well : DigestsGoWell
-digests_go_well tags digest resolve most v a scenes table able mjd fs ms fit none =
-    (goes_well (seal_by tags digest resolve (digests tags digest v.files)) most v a scenes mjd fs ms (digests_agree tags digest resolve v table able ms fit none)).0
+digests_go_well tags digest most v a scenes table able mjd fs ms fit none =
+    (goes_well (seal_by tags digest (digests tags digest v.files)) most v a scenes mjd fs ms (digests_agree tags digest v table able ms fit none)).0

@@ -1,10 +1,13 @@
 pub mod Whole
 pub mod PartLemmas
 pub mod PostLemmas
+pub mod LeaveLemmas
 pub mod PlayLemmas
+pub mod ItemLemmas
 pub mod BringLemmas
 pub mod NeverLemmas
 pub mod SealLemmas
 pub mod StubLemmas
 pub mod SealedLemmas
+pub mod JoinLemmas
 pub mod DigestLemmas

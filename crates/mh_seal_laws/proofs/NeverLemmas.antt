@@ -39,8 +39,9 @@ use Rattle.mh_laws.proofs.ReadyLemmas.{first_item}
 use Rattle.mh_laws.proofs.SafeLemmas.{safe_begun_with, safe_moved}
 use Rattle.mh_seal_laws.proofs.Whole.{AreHere, is_here}
 use Rattle.mh_seal_laws.specs.Bringing.{AreScenes, BringsHere, EachBringsHere, NeverBringsLate}
-use Rattle.mh_seal_laws.proofs.BringLemmas.{LaunchesHere, and_both, apart_classes, heard_here, key_here, launch_fit, launched_class, leaving_here, never_both, not_late, not_true, rule_here}
-use Rattle.mh_seal_laws.proofs.PlayLemmas.{did_leaves, key_leaves, step_passes}
+use Rattle.mh_seal_laws.proofs.ItemLemmas.{and_both, heard_here, key_here, leaving_here}
+use Rattle.mh_seal_laws.proofs.BringLemmas.{LaunchesHere, apart_classes, launch_fit, launched_class, never_both, not_late, not_true, rule_here}
+use Rattle.mh_seal_laws.proofs.LeaveLemmas.{did_leaves, key_leaves, step_passes}
 
 record Keeps (s : State) : Type 0 where
   safe : IsSafe s

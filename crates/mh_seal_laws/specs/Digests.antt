@@ -13,19 +13,17 @@ use Rattle.mh_model.specs.declared.file.File.{File}
 use Rattle.mh_model.specs.declared.input.Input.TheVariants as input
 use Rattle.mh_model.specs.declared.input.Move.{Move}
 use Rattle.mh_model.specs.declared.input.Move.TheVariants as move
-use Rattle.mh_model.specs.declared.object.Fixed.{Fixed}
 use Rattle.mh_model.specs.Late.{written_at}
-use Rattle.mh_model.specs.Service.{Service, group_parts}
+use Rattle.mh_model.specs.Service.{Service}
 use Rattle.mh_laws.specs.Budget.{GoesWell, IsAccepted, bounds}
 use Rattle.mh_laws.specs.Headline.{begun_with}
+use Rattle.mh_service.specs.Refusals.{File as GroupFile}
+use Rattle.mh_service.specs.Resolved.{parts_of, resolved}
+use Rattle.mh_service.specs.Sealed.{with_group}
 use Rattle.mh_seal_laws.specs.Bringing.{AreScenes}
 use Rattle.mh_seal_laws.specs.Seal.{Seal, sealed_run}
 use Rattle.mh_seal_laws.specs.Sealed.{Agrees, sealed_budget}
-use Rattle.mh_seal_laws.specs.Stubs.{seal_of, stubbed, with_group}
-
--- a file of the service: the name of a group, and what it writes
-abbrev pub GroupFile : Type 0
-GroupFile = List ℕ × Written
+use Rattle.mh_seal_laws.specs.Stubs.{seal_of, stubbed}
 
 -- Under a table of tags, with any function that takes octets to their digest
 module _ (tags : Tags) (digest : List ℕ → List ℕ) where
@@ -47,9 +45,9 @@ module _ (tags : Tags) (digest : List ℕ → List ℕ) where
   abbrev pub listed_at : List ℕ → List (List ℕ × List ℕ) → Option (List ℕ)
   listed_at g ds = option_map (λ e. e.1) (find (λ e. bytes_eq e.0 g) ds)
 
-  -- the seal that goes by the digests which are listed, and resolves a group so
-  abbrev pub seal_by : (List ℕ → Written → List Fixed) → List (List ℕ × List ℕ) → Seal
-  seal_by resolve ds = record { fits = λ g x. has_digest x (listed_at g ds); grown = λ g x. with_group g (resolve g x) }
+  -- the seal that goes by the digests which are listed
+  abbrev pub seal_by : List (List ℕ × List ℕ) → Seal
+  seal_by ds = record { fits = λ g x. has_digest x (listed_at g ds); grown = λ g x. with_group g (parts_of g x) }
 
   -- two groups are spelled otherwise and have one digest
   abbrev pub is_collision : Written → Written → Bool
@@ -60,11 +58,11 @@ module _ (tags : Tags) (digest : List ℕ → List ℕ) where
   meets_collision fs (move.Post (input.Scene g x)) = option_map_or (is_collision x) (written_at g fs) false
   meets_collision fs _ = false
 
-  -- each file of the service can be spelled, and what it writes is resolved so
-  pub record IsSealable (resolve : List ℕ → Written → List Fixed) (v : Service) : Type 0 where
+  -- the service is that of its files, each of which can be spelled
+  pub record IsSealable (v : Service) : Type 0 where
+    pub files : v.groups ≡ map resolved v.files
     pub groups : list_all (λ f. is_group f.1) v.files ≡ true
     pub spelled : list_all (λ f. is_spelled f.1) v.files ≡ true
-    pub resolved : (g : List ℕ) (x : Written) → written_at g v.files ≡ Some x → group_parts v g ≡ resolve g x
 
 -- a group that is posted is one that the tables allow, as readers give no others
 abbrev pub brings_group : Move → Bool
@@ -74,19 +72,19 @@ brings_group _ = true
 -- UNLESS TWO GROUPS WITH ONE DIGEST ARE MET, the digests are right of all that is met.
 abbrev pub DigestsAgree : Type 0
 DigestsAgree =
-    (tags : Tags) (digest : List ℕ → List ℕ) (resolve : List ℕ → Written → List Fixed) (v : Service) →
-    IsTable tags → IsSealable tags digest resolve v →
+    (tags : Tags) (digest : List ℕ → List ℕ) (v : Service) →
+    IsTable tags → IsSealable tags digest v →
     (ms : List Move) → list_all brings_group ms ≡ true → list_any (meets_collision tags digest v.files) ms ≡ false →
-    Agrees (seal_by tags digest resolve (digests tags digest v.files)) (seal_of v) ms
+    Agrees (seal_by tags digest (digests tags digest v.files)) (seal_of v) ms
 
 -- AND SO nothing is stuck in a run beside the digests of an accepted service, and it takes no more steps than its bounds allow.
 abbrev pub DigestsGoWell : Type 0
 DigestsGoWell =
-    (tags : Tags) (digest : List ℕ → List ℕ) (resolve : List ℕ → Written → List Fixed) (most : ℕ) (v : Service)
-    (a : IsAccepted most v) → AreScenes v v.late → IsTable tags → IsSealable tags digest resolve v →
+    (tags : Tags) (digest : List ℕ → List ℕ) (most : ℕ) (v : Service)
+    (a : IsAccepted most v) → AreScenes v v.late → IsTable tags → IsSealable tags digest v →
     (mjd : ℕ) (fs : List File) (ms : List Move) →
     list_all brings_group ms ≡ true → list_any (meets_collision tags digest v.files) ms ≡ false →
     GoesWell
-    (sealed_budget (bounds a) (seal_by tags digest resolve (digests tags digest v.files)) ms (bounds a).start
+    (sealed_budget (bounds a) (seal_by tags digest (digests tags digest v.files)) ms (bounds a).start
     (begun_with (stubbed v) mjd fs))
-    (sealed_run (seal_by tags digest resolve (digests tags digest v.files)) ms (begun_with (stubbed v) mjd fs))
+    (sealed_run (seal_by tags digest (digests tags digest v.files)) ms (begun_with (stubbed v) mjd fs))

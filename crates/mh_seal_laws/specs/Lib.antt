@@ -4,3 +4,4 @@ pub mod Stubs
 pub mod Bringing
 pub mod Sealed
 pub mod Digests
+pub mod Joined

@@ -1,17 +1,12 @@
 -- The seal that has the whole service at hand, and what is known of the service where no late scene is there.
 use Rattle.std.specs.Prelude.{ℕ, if◌then◌else◌, List, [], ◌∷◌, map}
-use Rattle.std.specs.Str.{bytes_eq}
 use Rattle.mh_group.specs.declared.class.Class.TheVariants as class
 use Rattle.mh_model.specs.declared.object.Fixed.{Fixed}
-use Rattle.mh_model.specs.First.{put_first}
 use Rattle.mh_model.specs.Late.{is_late_scene, is_written_so, written_at}
 use Rattle.mh_model.specs.Reference.{group_ref}
 use Rattle.mh_model.specs.Service.{Service, group_parts}
+use Rattle.mh_service.specs.Sealed.{with_group}
 use Rattle.mh_seal_laws.specs.Seal.{Seal}
-
--- the service with these parts as those of the group
-abbrev pub with_group : List ℕ → List Fixed → Service → Service
-with_group g ps v = record v { groups = put_first (λ e. bytes_eq e.0 g) (g, ps) v.groups }
 
 -- each file is compared with the service's own, and brings what the service has
 abbrev pub seal_of : Service → Seal

@@ -3,6 +3,7 @@ ghost use Rattle.mh_seal_laws.specs.Part.{NotLookedAt, StuckAlike, ShownAlike};
 ghost use Rattle.mh_seal_laws.specs.Bringing.{NeverBringsLate};
 ghost use Rattle.mh_seal_laws.specs.Sealed.{SealedPlays, SealedGoesWell};
 ghost use Rattle.mh_seal_laws.specs.Digests.{DigestsAgree, DigestsGoWell};
+ghost use Rattle.mh_seal_laws.specs.Joined.{OfSealIsStubbed};
 
 /// The law that a step looks at nothing of a service but its receiver's programs, the class of each group, the
 /// groups that are present and the one that the first item brings; nor do the fault of that item and the
@@ -31,4 +32,10 @@ pub fn sealed_plays()
 pub fn digests_agree()
     ensures law { DigestsAgree }
     ensures well { DigestsGoWell }
+{}
+
+/// The law that what `Service::of_seal` makes of the groups of a service without its late scenes is the service with
+/// stubs of which the other laws speak.
+pub fn of_seal_is_stubbed()
+    ensures { OfSealIsStubbed }
 {}
