@@ -3,3 +3,5 @@ pub mod Frame
 pub mod Stretch
 pub mod Told
 pub mod Reading
+pub mod Hex
+pub mod Masks

@@ -22,3 +22,7 @@ character c = encode_utf8 (if scalar c then c else 65533)
 -- a character between quotation marks: the mark itself and the backslash get a backslash
 abbrev pub quoted : ℕ → List ℕ
 quoted c = if c == 34 then 92 ∷ 34 ∷ [] else (if c == 92 then 92 ∷ 92 ∷ [] else character c)
+
+-- the two digits of a byte
+abbrev pub hex_pair : ℕ → List ℕ
+hex_pair n = hex_digit (n / 16) ∷ hex_digit n ∷ []

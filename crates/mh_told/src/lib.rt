@@ -6,6 +6,8 @@
 #![tactic(auto)]
 
 mod late;
+mod line;
+mod masks;
 pub mod reading;
 pub mod row;
 pub mod tags;

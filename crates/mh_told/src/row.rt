@@ -1,9 +1,13 @@
 //! The line of a row of the picture, as reports print it: the runs of its cells.
-ghost use Rattle.std.specs.Prelude.{◌≡◌, ◌+◌, ◌<◌, ◌≤◌, ◌++◌, OnOk, length};
-ghost use Rattle.std.specs.List.{list_all};
-ghost use Rattle.mh_told.specs.Frame.{is_space, is_blank, behind, shown_length, run_text, place, characters, runs, row_cells, row_line};
-ghost use Rattle.mh_told.specs.Stretch.{stretch, have_colours, runs_left};
+ghost use Rattle.std.specs.Prelude.{◌≡◌, ◌+◌, ◌*◌, ◌<◌, ◌≤◌, ◌++◌, nat_eq, OnOk, length, take, codes};
+ghost use Rattle.std.specs.List.{flat_map, list_all};
+ghost use Rattle.mh_told.specs.Frame.{is_blank, is_space, behind, last, shown_length, run_text, place, runs, row_cells, row_line};
+ghost use Rattle.mh_told.specs.Masks.{IsShown, Tells, is_written};
+ghost use Rattle.mh_told.specs.Printing.{quoted, two_digits};
+ghost use Rattle.mh_told.specs.Stretch.{stretch};
 
+use crate::line::{ROOM, put_byte, put_colour, put_column, put_mark, put_plain};
+use crate::masks::{behind_bits, below, lasts_of, lowest, without, written_in};
 use crate::text::Text;
 use mh_model::Picture;
 use mh_model::picture::COLUMNS;
@@ -28,123 +32,137 @@ impl<'a> Model for Run<'a> {
 }
 
 impl<'a> Run<'a> {
-    /// The column behind it.
-    fn behind(&self) -> usize
-        requires { self.now.first + length self.now.scalars < 1000 }
-        ensures { result ≡ behind self.now }
+    /// Its last column.
+    #[inline(always)]
+    fn last(&self) -> usize
+        requires some { 0 < length self.now.scalars }
+        requires within { behind self.now ≤ 60 }
+        ensures { result ≡ last self.now }
     {
-        self.first + self.scalars.len()
+        self.first + self.scalars.len() - 1
     }
 
-    /// Whether it is black spaces on black, which are not printed.
-    fn is_blank(&self) -> bool
+    /// Whether it is black spaces on black, which are not printed; so many of its characters are.
+    #[inline(always)]
+    fn is_blank(&self, shown: usize) -> bool
+        requires { nat_eq shown 0 ≡ list_all is_space self.now.scalars }
         ensures { result ≡ is_blank self.now }
     {
-        self.fore == 0 && self.back == 0 && are_spaces(self.scalars)
+        self.fore == 0 && self.back == 0 && is_none(shown)
     }
 
-    /// Puts the run behind the text.
-    #[tactic(auto, unfolding(crate::specs::Frame::run_text))]
-    fn put(&self, text: &mut Text) -> Result<(), AllocError>
+    /// Puts the run behind the text; so many of its characters are printed.
+    fn put(&self, text: &mut Text, shown: usize) -> Result<(), AllocError>
         requires some { 0 < length self.now.scalars }
-        requires within { self.now.first + length self.now.scalars < 1000 }
+        requires within { behind self.now ≤ 60 }
+        requires shown { shown ≡ shown_length self.now.scalars }
+        requires blank { nat_eq shown 0 ≡ list_all is_space self.now.scalars }
         ensures { OnOk result (text.new ≡ text.old ++ run_text self.now) }
     {
-        if self.is_blank() {
+        if self.is_blank(shown) {
             return Ok(());
         }
-        self.put_place(text)?;
-        self.put_characters(text)
+        let mut line = [b' '; ROOM];
+        let at = self.put_place(&mut line);
+        let at = put_mark(&mut line, at);
+        let printed = &self.scalars[..shown];
+        let count = put_plain(&mut line, at, printed);
+        put_line(text, &mut line, at + count, &printed[count..])?;
+        Ok(())
     }
 
-    fn put_place(&self, text: &mut Text) -> Result<(), AllocError>
+    /// Puts where the run lies, and its two colours.
+    #[inline(always)]
+    fn put_place(&self, line: &mut [u8; 96]) -> usize
         requires some { 0 < length self.now.scalars }
-        requires within { self.now.first + length self.now.scalars < 1000 }
-        ensures { OnOk result (text.new ≡ text.old ++ place self.now) }
+        requires within { behind self.now ≤ 60 }
+        ensures front { take result line.new ≡ place self.now }
+        ensures room { result ≤ 20 }
     {
-        text.put(b" ")?;
-        text.put_number(self.first as u64)?;
-        text.put(b"-")?;
-        text.put_number((self.behind() - 1) as u64)?;
-        text.put(b" ")?;
-        text.put_colour(self.fore)?;
-        text.put(b"/")?;
-        text.put_colour(self.back)
-    }
-
-    fn put_characters(&self, text: &mut Text) -> Result<(), AllocError>
-        ensures { OnOk result (text.new ≡ text.old ++ characters self.now.scalars) }
-    {
-        text.put(b" \"")?;
-        text.put_all_quoted(&self.scalars[..shown_length(self.scalars)])?;
-        text.put(b"\"")
+        let at = put_byte(line, 0, b' ');
+        let at = put_column(line, at, self.first);
+        let at = put_byte(line, at, b'-');
+        let at = put_column(line, at, self.last());
+        let at = put_byte(line, at, b' ');
+        let at = put_colour(line, at, self.fore);
+        let at = put_byte(line, at, b'/');
+        put_colour(line, at, self.back)
     }
 }
 
-/// How many of the characters are printed: the spaces at their end are not.
-fn shown_length(scalars: &[u32]) -> usize
-    ensures { result ≡ shown_length scalars.now }
+/// Whether nothing of so many characters is printed.
+#[inline(always)]
+fn is_none(shown: usize) -> bool
+    ensures { result ≡ nat_eq shown 0 }
 {
-    let mut end = scalars.len();
-    while end > 0 && scalars[end - 1] == 32 {
-        end -= 1;
-    }
-    end
+    shown == 0
 }
 
-fn are_spaces(scalars: &[u32]) -> bool
-    ensures { result ≡ list_all is_space scalars.now }
+/// Puts what stands in the line before this place, the characters that are left, and the mark behind them.
+#[inline(always)]
+fn put_line(text: &mut Text, line: &mut [u8; 96], at: usize, left: &[u32]) -> Result<(), AllocError>
+    requires { at < 96 }
+    ensures { OnOk result (text.new ≡ text.old ++ (take at line.old ++ flat_map quoted left.now ++ codes "\"")) }
 {
-    scalars.iter().all(|scalar| *scalar == 32)
+    if left.is_empty() {
+        let end = put_byte(line, at, b'"');
+        return text.put(&line[..end]);
+    }
+    text.put(&line[..at])?;
+    text.put_all_quoted(left)?;
+    text.put(b"\"")
 }
 
-/// The run of a row that begins in this column.
-fn run_at<'a>(picture: &'a Picture, row: usize, first: usize) -> Run<'a>
+/// The run of a row from a column up to another.
+#[inline(always)]
+fn run_of<'a>(picture: &'a Picture, row: usize, first: usize, last: usize) -> Run<'a>
     requires row { row < 36 }
-    requires first { first < 60 }
-    ensures first { result.first ≡ first }
+    requires some { first ≤ last }
+    requires within { last < 60 }
+    ensures whole { result ≡ stretch picture.now row first (last + 1) }
     ensures some { 0 < length result.scalars }
     ensures within { behind result ≤ 60 }
-    ensures whole { let left = runs_left picture.now row in
-        left first ≡ run_text result ++ left (behind result) }
 {
     let start = row * COLUMNS;
-    let end = run_end(picture, row, first);
     Run {
         first,
         fore: picture.fores()[start + first],
         back: picture.backs()[start + first],
-        scalars: &picture.scalars()[start + first..start + end],
+        scalars: &picture.scalars()[start + first..start + (last + 1)],
     }
 }
 
-/// The column behind the cells that have the colours of this one.
-fn run_end(picture: &Picture, row: usize, first: usize) -> usize
+/// How many characters of the run from a column up to another are printed: not the spaces at its end.
+#[inline(always)]
+fn shown_in(picture: &Picture, row: usize, first: usize, last: usize, written: u64) -> usize
     requires row { row < 36 }
-    requires first { first < 60 }
-    ensures some { first < result }
-    ensures within { result ≤ 60 }
-    ensures whole { let left = runs_left picture.now row in
-        left first ≡ run_text (stretch picture.now row first result) ++ left result }
+    requires some { first ≤ last }
+    requires within { last < 60 }
+    requires told { Tells (λ k. is_written picture.now.scalars (row * 60 + k)) written }
+    ensures { IsShown (stretch picture.now row first (last + 1)).scalars result }
 {
     let _ = picture.cells();
-    let start = row * COLUMNS;
-    let mut end = first + 1;
-    while end < COLUMNS && are_alike(picture, start + first, start + end) {
-        end += 1;
-    }
-    end
+    behind_bits(below(written, last + 1)).saturating_sub(first)
 }
 
-/// Whether two cells have the same colours.
-fn are_alike(picture: &Picture, one: usize, other: usize) -> bool
-    requires one { one < 2160 }
-    requires other { other < 2160 }
-    ensures { result ≡ have_colours picture.now one other }
+/// Puts the run from a column up to another behind the text.
+fn put_run(
+    text: &mut Text,
+    picture: &Picture,
+    row: usize,
+    first: usize,
+    last: usize,
+    written: u64,
+) -> Result<(), AllocError>
+    requires row { row < 36 }
+    requires some { first ≤ last }
+    requires within { last < 60 }
+    requires told { Tells (λ k. is_written picture.now.scalars (row * 60 + k)) written }
+    ensures { OnOk result (text.new ≡ text.old ++ run_text (stretch picture.now row first (last + 1))) }
 {
-    let fores = picture.fores();
-    let backs = picture.backs();
-    fores[one] == fores[other] && backs[one] == backs[other]
+    let run = run_of(picture, row, first, last);
+    let shown = shown_in(picture, row, first, last, written);
+    run.put(text, shown)
 }
 
 /// Puts the runs of a row behind the text.
@@ -152,13 +170,28 @@ fn put_runs(text: &mut Text, picture: &Picture, row: usize) -> Result<(), AllocE
     requires { row < 36 }
     ensures { OnOk result (text.new ≡ text.old ++ runs (row_cells picture.now row)) }
 {
-    let mut column = 0;
-    while column < COLUMNS {
-        let run = run_at(picture, row, column);
-        run.put(text)?;
-        column = run.behind();
+    let _ = picture.cells();
+    let written = written_in(picture.scalars(), row * COLUMNS);
+    let mut lasts = lasts_of(picture, row);
+    let mut first = 0;
+    while first < COLUMNS {
+        let last = lowest(lasts);
+        put_run(text, picture, row, first, last, written)?;
+        lasts = without(lasts, last);
+        first = last + 1;
     }
     Ok(())
+}
+
+/// Puts what a row begins with: its number in two digits.
+#[inline(always)]
+fn put_number(text: &mut Text, row: usize) -> Result<(), AllocError>
+    requires { row < 36 }
+    ensures { OnOk result (text.new ≡ text.old ++ (codes "row " ++ two_digits row ++ codes ":")) }
+{
+    let tens = b'0' + (row / 10) as u8;
+    let ones = b'0' + (row % 10) as u8;
+    text.put(&[b'r', b'o', b'w', b' ', tens, ones, b':'])
 }
 
 /// Puts the line of a row of the picture, counted from the top, behind the text: its number in two digits, and
@@ -167,9 +200,7 @@ pub fn put_row(text: &mut Text, picture: &Picture, row: usize) -> Result<(), All
     requires { row < 36 }
     ensures { OnOk result (text.new ≡ text.old ++ row_line row (row_cells picture.now row)) }
 {
-    text.put(b"row ")?;
-    text.put_two_digits(row as u8)?;
-    text.put(b":")?;
+    put_number(text, row)?;
     put_runs(text, picture, row)?;
-    text.put(b"\n")
+    text.put_byte(b'\n')
 }
