@@ -5,4 +5,3 @@ pub mod CallLemmas
 pub mod ListeningLemmas
 pub mod PartsLemmas
 pub mod NothingLemmas
-pub mod WrittenLemmas

@@ -145,7 +145,8 @@ pub kept_behind : {T : Type 0} (entries : T → List (ℕ × List ℕ)) (p q : T
     → p.state ≡ s → q ≡ traced_by i p → i ≡ slice_get s.work 0 → IsIndexOf es (parts (all s.objects))
     → IfSome known (λ x. (is_exchange i ≡ false) × (entries x ≡ es)) → IfSome known (λ x. IsIndexOf (entries x) (parts (all q.state.objects)))
 kept_behind entries p q s i es None was made front index told = tt
-kept_behind entries p q s i es (Some x) was made front index told n =
+kept_behind entries p q s i es (Some x) was made front index told =
     let now : q.state ≡ step s = ap (λ (r : Tracing). r.state) made ∙ ap step was in
+    λ n.
     still_listed s i es (entries x) (sym front) told.0 told.1 index n
     ∙ ap (λ (t : State). places_from n 0 (parts (all t.objects))) (sym now)

@@ -46,7 +46,7 @@ use Rattle.mh_model.proofs.ServiceLemmas.{same_ref-same}
 use Rattle.mh_store.proofs.PlacingLemmas.{all-changed}
 use Rattle.mh_machine.specs.Rest.{answer_by, answer_of, judged}
 use Rattle.mh_machine.specs.declared.stepped.Stepped.TheVariants as answer
-use Rattle.mh_trace.specs.Changes.{attribute_by, attribute_note, attribute_notes, content_notes, count_note, count_notes, count_text, flag_note, flag_text, items_change, life_notes, notes, notes_among, notes_at, notes_on, same_bool, same_colour, same_entries, same_entry, same_given, same_held, same_loaded, same_read, text_change, value_change}
+use Rattle.mh_trace.specs.Changes.{attribute_by, available_note, highlighted_note, overwriting_note, running_note, selected_note, attribute_note, attribute_notes, content_notes, count_note, count_notes, count_text, flag_note, flag_text, items_change, life_notes, notes, notes_among, notes_at, notes_on, same_bool, same_colour, same_entries, same_entry, same_given, same_held, same_loaded, same_read, text_change, value_change}
 use Rattle.mh_base.specs.Event.{is_sync}
 use Rattle.mh_group.specs.declared.attribute.Attribute.TheVariants as attribute
 use Rattle.mh_group.specs.Table.{is_visible}
@@ -139,7 +139,7 @@ count_alike : (r : ObjRef) (word : List ℕ) (n : ℕ) → count_note r word n n
 count_alike r word n = ap (λ (t : Bool). if t then [] else count_text r word n n) (number_alike n)
 
 life_alike : (r : ObjRef) (b : Body) → life_notes r b b ≡ []
-unfolding life_notes
+unfolding life_notes available_note running_note highlighted_note selected_note overwriting_note
 life_alike r b = λ i.
     flag_alike r (codes "available") b.available i ++ flag_alike r (codes "running") b.running i
     ++ flag_alike r (codes "highlighted") b.highlighted i ++ flag_alike r (codes "selected") b.selected i
@@ -454,7 +454,7 @@ unfolding flag_text note_start
 flags_told r word e = cc
 
 life_apart : (r : ObjRef) (b c : Body) → life_notes r b c ≡ [] → flag_note r (codes "running") b.running c.running ≡ []
-unfolding life_notes
+unfolding life_notes available_note running_note highlighted_note selected_note overwriting_note
 life_apart r b c none =
     none_behind (flag_note r (codes "available") b.available c.available) (flag_note r (codes "running") b.running c.running)
     (none_in_front (flag_note r (codes "available") b.available c.available ++ flag_note r (codes "running") b.running c.running)

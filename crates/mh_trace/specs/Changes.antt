@@ -163,13 +163,26 @@ attribute_notes o c = flat_map (attribute_note o c) attributes
 
 -- all that is told of an object, which was this, and has this body now
 
+unfoldable pub available_note : ObjRef → Bool → Bool → List ℕ
+available_note r b c = flag_note r (codes "available") b c
+
+unfoldable pub running_note : ObjRef → Bool → Bool → List ℕ
+running_note r b c = flag_note r (codes "running") b c
+
+unfoldable pub highlighted_note : ObjRef → Bool → Bool → List ℕ
+highlighted_note r b c = flag_note r (codes "highlighted") b c
+
+unfoldable pub selected_note : ObjRef → Bool → Bool → List ℕ
+selected_note r b c = flag_note r (codes "selected") b c
+
+unfoldable pub overwriting_note : ObjRef → Bool → Bool → List ℕ
+overwriting_note r b c = flag_note r (codes "overwriting") b c
+
 unfoldable pub life_notes : ObjRef → Body → Body → List ℕ
 life_notes r b c =
-    flag_note r (codes "available") b.available c.available
-    ++ flag_note r (codes "running") b.running c.running
-    ++ flag_note r (codes "highlighted") b.highlighted c.highlighted
-    ++ flag_note r (codes "selected") b.selected c.selected
-    ++ flag_note r (codes "overwriting") b.overwrites c.overwrites
+    available_note r b.available c.available ++ running_note r b.running c.running
+    ++ highlighted_note r b.highlighted c.highlighted ++ selected_note r b.selected c.selected
+    ++ overwriting_note r b.overwrites c.overwrites
 
 unfoldable pub count_notes : ObjRef → Body → Body → List ℕ
 count_notes r b c =

@@ -7,7 +7,6 @@ pub mod Touched
 pub mod Changes
 pub mod Why
 pub mod Trace
-pub mod Written
 pub mod Cover
 pub mod Run
 pub mod Nothing

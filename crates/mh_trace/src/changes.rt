@@ -73,23 +73,56 @@ fn put_notes(
 fn put_life(text: &mut Text, at: &ObjRef, before: &Body, behind: &Body) -> Result<(), AllocError>
     ensures { OnOk result (text.new ≡ text.old ++ spec.life_notes at.now before.now behind.now) }
 {
-    put_flag(text, at, b"available", before.available, behind.available)?;
-    put_flag(text, at, b"running", before.running, behind.running)?;
-    put_flag(
-        text,
-        at,
-        b"highlighted",
-        before.highlighted,
-        behind.highlighted,
-    )?;
-    put_flag(text, at, b"selected", before.selected, behind.selected)?;
-    put_flag(
-        text,
-        at,
-        b"overwriting",
-        before.overwrites,
-        behind.overwrites,
-    )
+    put_available(text, at, before.available, behind.available)?;
+    put_running(text, at, before.running, behind.running)?;
+    put_highlighted(text, at, before.highlighted, behind.highlighted)?;
+    put_selected(text, at, before.selected, behind.selected)?;
+    put_overwriting(text, at, before.overwrites, behind.overwrites)
+}
+
+#[tactic(auto, unfolding(crate::specs::Changes::available_note))]
+fn put_available(text: &mut Text, at: &ObjRef, before: bool, behind: bool) -> Result<(), AllocError>
+    ensures { OnOk result (text.new ≡ text.old ++ spec.available_note at.now before behind) }
+{
+    put_flag(text, at, b"available", before, behind)
+}
+
+#[tactic(auto, unfolding(crate::specs::Changes::running_note))]
+fn put_running(text: &mut Text, at: &ObjRef, before: bool, behind: bool) -> Result<(), AllocError>
+    ensures { OnOk result (text.new ≡ text.old ++ spec.running_note at.now before behind) }
+{
+    put_flag(text, at, b"running", before, behind)
+}
+
+#[tactic(auto, unfolding(crate::specs::Changes::highlighted_note))]
+fn put_highlighted(
+    text: &mut Text,
+    at: &ObjRef,
+    before: bool,
+    behind: bool,
+) -> Result<(), AllocError>
+    ensures { OnOk result (text.new ≡ text.old ++ spec.highlighted_note at.now before behind) }
+{
+    put_flag(text, at, b"highlighted", before, behind)
+}
+
+#[tactic(auto, unfolding(crate::specs::Changes::selected_note))]
+fn put_selected(text: &mut Text, at: &ObjRef, before: bool, behind: bool) -> Result<(), AllocError>
+    ensures { OnOk result (text.new ≡ text.old ++ spec.selected_note at.now before behind) }
+{
+    put_flag(text, at, b"selected", before, behind)
+}
+
+#[tactic(auto, unfolding(crate::specs::Changes::overwriting_note))]
+fn put_overwriting(
+    text: &mut Text,
+    at: &ObjRef,
+    before: bool,
+    behind: bool,
+) -> Result<(), AllocError>
+    ensures { OnOk result (text.new ≡ text.old ++ spec.overwriting_note at.now before behind) }
+{
+    put_flag(text, at, b"overwriting", before, behind)
 }
 
 #[tactic(auto, unfolding(crate::specs::Changes::count_notes))]

@@ -46,8 +46,14 @@ fn put_all_ears(
     requires { IsIndexOf listening.now.entries (parts (all objects.now)) }
     ensures { OnOk result (text.new ≡ text.old ++ spec.ears (Some event.now) (all objects.now)) }
 {
-    let places = places(listening, event.source.number);
-    put_ears_at(alloc, text, event, objects, places)
+    put_ears_at(
+        alloc,
+        text,
+        event,
+        objects,
+        places(listening, event.source.number),
+    )?;
+    Ok(())
 }
 
 fn put_ears_at(

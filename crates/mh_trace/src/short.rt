@@ -36,16 +36,16 @@ fn put_short_octets(text: &mut Text, octets: &[u8]) -> Result<(), AllocError>
 fn put_cut(text: &mut Text, octets: &[u8]) -> Result<(), AllocError>
     ensures { OnOk result (text.new ≡ text.old ++ spec.cut_text octets.now) }
 {
-    put_octets(text, front_of(octets))?;
+    put_octets(text, front_of(octets, MOST_SHOWN))?;
     text.put(b".. of ")?;
     text.put_number(octets.len() as u64)
 }
 
-/// The octets that are shown.
-fn front_of(octets: &[u8]) -> &[u8]
-    ensures { result.now ≡ take spec.most_shown octets.now }
+/// The first so many octets.
+fn front_of(octets: &[u8], size: usize) -> &[u8]
+    ensures { result.now ≡ take size octets.now }
 {
-    octets.get(..MOST_SHOWN).unwrap_or(octets)
+    octets.get(..size).unwrap_or(octets)
 }
 
 /// Puts what a variable holds, if it holds something.

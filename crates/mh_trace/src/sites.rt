@@ -59,8 +59,12 @@ pub fn heard_sites(
     requires { IsIndexOf listening.now.entries (parts (all objects.now)) }
     ensures { IfOk result (λ sites. sites.items ≡ spec.heard_sites event.now (all objects.now)) }
 {
-    let places = places(listening, event.source.number);
-    let sites = heard_sites_at(alloc, event, objects, places)?;
+    let sites = heard_sites_at(
+        alloc,
+        event,
+        objects,
+        places(listening, event.source.number),
+    )?;
     Ok(sites)
 }
 

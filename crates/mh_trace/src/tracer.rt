@@ -148,20 +148,12 @@ impl Tracer {
         ensures left { OnOk result (self.new ≡ spec.steps most self.old) }
     {
         let before = self.machine.taken();
-        self.prepare()?;
         self.steps(most, text)?;
         put_did(
             text,
             self.machine.taken().saturating_sub(before),
             self.machine.rest(),
         )
-    }
-
-    /// Makes ready what steps ask again and again.
-    fn prepare(&mut self) -> Result<(), AllocError>
-        ensures { OnOk result (self.new ≡ self.old) }
-    {
-        self.directory.prepare(self.alloc)
     }
 
     fn steps(&mut self, most: u32, text: &mut Text) -> Result<(), AllocError>

@@ -1,4 +1,3 @@
-pub mod Counting
 pub mod Naming
 pub mod Directory
 pub mod Tried

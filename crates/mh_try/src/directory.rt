@@ -2,13 +2,11 @@
 //!
 //! Promise: the directory is that of `specs/Directory`. What a slot does, and what is written in the binary notation, has no entry.
 ghost use Rattle.std.specs.Prelude.{◌≡◌, ◌++◌, ◌+◌, ◌-◌, ◌<◌, ◌≤◌, ◌^◌, IfOk, IfSome, OnOk};
-ghost use Rattle.mh_places.specs.Places.{place_at};
 ghost use Rattle.mh_try.specs.Directory as spec;
 
-use crate::counting::{beginning, known_behind};
 use mh_base::{GroupName, ObjRef};
 use mh_group::Attribute;
-use mh_places::{Place, put_place};
+use mh_places::{place_at, put_place};
 use mh_text::{Mark, marks};
 use mh_told::text::Text;
 use mh_trace::{EffectKind, Site};
@@ -50,12 +48,9 @@ fn push_marks(
     ensures { OnOk result (entries.new.items ≡ entries.old.items ++ spec.entries_from group.now bytes.now (spec.beginning_of group.now) marks.now) }
 {
     let mut last = beginning_of(group)?;
-    let mut known = beginning(bytes);
     for mark in marks {
-        known = known_behind(bytes, known, mark.start);
         if let Some(site) = site_of(group, &last, mark)? {
-            let text = written(alloc, group, bytes, mark, known.place)?;
-            entries.push((site.copied()?, text))?;
+            entries.push((site.copied()?, written(alloc, group, bytes, mark)?))?;
             last = site;
         }
     }
@@ -133,23 +128,14 @@ fn kind_of(field: Attribute) -> Option<EffectKind>
     }
 }
 
-/// The file, the line and the column of an action that is marked at this place.
+/// The file, the line and the column of an action that is marked.
 #[tactic(auto, unfolding(crate::specs::Directory::written))]
-fn written(
-    alloc: Global,
-    group: &GroupName,
-    bytes: &[u8],
-    mark: &Mark,
-    place: Place,
-) -> Result<Text, AllocError>
-    requires { place ≡ place_at bytes.now mark.now.start }
+fn written(alloc: Global, group: &GroupName, bytes: &[u8], mark: &Mark) -> Result<Text, AllocError>
     ensures { IfOk result (λ text. text ≡ spec.written group.now bytes.now mark.now) }
 {
-    let _ = bytes;
-    let _ = mark;
     let mut text = Text::new(alloc);
     text.put(group.as_bytes())?;
     text.put(b":")?;
-    put_place(&mut text, place)?;
+    put_place(&mut text, place_at(bytes, mark.start))?;
     Ok(text)
 }

@@ -4,7 +4,6 @@
 //! to a fault, as `specs/Tried` says. Where the bytes come from and go to is left to the program.
 #![tactic(auto)]
 
-mod counting;
 mod directory;
 mod finding;
 mod naming;

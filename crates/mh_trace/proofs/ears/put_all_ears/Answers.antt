@@ -9,6 +9,6 @@ pub returns : goal.returns
 returns c =
     let e = c.args.event.now in
     let n = e.source.number in
-    c.put_ears_at.ensures
+    c.in_ok-put_ears_at.ensures
     ∙ ap (λ (ls : List ℕ). c.args.text.now ++ ls)
     (all_by_places (ear e) n (all c.args.objects.now) c.places.result.now (ear_none e) (c.places.ensures ∙ c.requires n))
