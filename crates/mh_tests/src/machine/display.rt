@@ -125,10 +125,14 @@ impl Question for Shown {
 
 /// The scalar at this place of the line, if it has one there.
 fn scalar_in(line: &LaidLine, place: i64) -> Option<u32> {
-    if place < 0 || line.length() as i64 <= place {
+    if place < 0 {
         return None;
     }
-    let (scalar, _) = first_of(behind_first(line.text(), place as usize))?;
+    let place = place as usize;
+    if line.length() <= place {
+        return None;
+    }
+    let (scalar, _) = first_of(behind_first(line.text(), place))?;
     Some(scalar)
 }
 
