@@ -118,7 +118,9 @@ impl Question for Shown {
         let Some(line) = lines.next() else {
             return said(alloc, b"none");
         };
-        let place = i64::from(column) - first_column(&area) - i64::from(line.column());
+        let place = i64::from(column)
+            .checked_sub(first_column(&area))?
+            .checked_sub(i64::from(line.column()))?;
         character_told(alloc, scalar_in(&line, place))
     }
 }
