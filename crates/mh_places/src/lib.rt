@@ -1,8 +1,14 @@
-//! Places in texts: the line and the column, as authors count them.
+//! Places in texts: the line and the column, as authors count them; and where the objects of a service and their actions
+//! stand in its files.
 //!
-//! Promise: each function answers what the definition of the same name in `specs/Places` says.
+//! Promise: each function answers what the definition of the same matter in `specs/` says.
 #![tactic(auto)]
 
+mod counting;
+mod directory;
 mod place;
+mod table;
 
+pub use counting::{Known, beginning, known_behind};
+pub use directory::Directory;
 pub use place::{Place, place_at, put_place};
