@@ -1,1 +1,3 @@
 pub mod FindingLemmas
+pub mod GroundLemmas
+pub mod UseLemmas

@@ -1,18 +1,15 @@
 -- The lines of notes, and which notes are told: a rule is turned off for all files, or by a comment in one.
-use Rattle.std.specs.Prelude.{ℕ, ◌==◌, Bool, false, ◌||◌, if◌then◌else◌, List, [], ◌++◌, codes, take, Option, Some, None}
+use Rattle.std.specs.Prelude.{◌≡◌, ℕ, ◌-◌, ◌==◌, Bool, false, ◌||◌, if◌then◌else◌, List, [], ◌++◌, codes, slice_get, take, Option, Some, None}
 use Rattle.std.specs.List.{flat_map, list_any}
-use Rattle.std.specs.Option.{option_map}
 use Rattle.bstr.specs.Text.{lines_of, without_terminator}
 use Rattle.mh_base.specs.declared.obj_ref.ObjRef.{ObjRef}
 use Rattle.mh_model.specs.Service.{Service}
-use Rattle.mh_text.specs.declared.mark.Mark.{Mark}
-use Rattle.mh_text.specs.Marks.{mark_of, marks}
 use Rattle.mh_told.specs.Reading.{Source}
 use Rattle.mh_lint.specs.declared.note.Note.{Note}
-use Rattle.mh_places.specs.declared.place.Place.{Place}
-use Rattle.mh_places.specs.Places.{place_at}
+use Rattle.mh_places.specs.Directory.{action_place}
 use Rattle.mh_lint.specs.declared.rule.Allowed.{Allowed}
 use Rattle.mh_lint.specs.declared.rule.Rule.{Rule}
+use Rattle.mh_lint.specs.declared.rule.Rule.TheVariants as rule
 use Rattle.mh_lint.specs.Notes.{ends_in}
 use Rattle.mh_lint.specs.Rules.{has, rule_text, rule_word}
 use Rattle.mh_lint.specs.Sources.{allow_words, file_of}
@@ -30,6 +27,39 @@ turns_off words line = ends_in words (without_terminator line)
 abbrev pub allows : List ℕ → List ℕ → Bool
 allows words bytes = list_any (turns_off words) (lines_of bytes)
 
+-- which rules the comments of a file turn off
+unfoldable pub allowed_in : List ℕ → Allowed
+allowed_in bs = record {
+  editor_backup = allows (comment_words rule.EditorBackup) bs;
+  identifier_differs = allows (comment_words rule.IdentifierDiffers) bs;
+  unknown_rule = allows (comment_words rule.UnknownRule) bs;
+  start_leads_away = allows (comment_words rule.StartLeadsAway) bs;
+  not_shared = allows (comment_words rule.NotShared) bs;
+  no_actions = allows (comment_words rule.NoActions) bs;
+  behind_transition = allows (comment_words rule.BehindTransition) bs;
+  division_by_zero = allows (comment_words rule.DivisionByZero) bs;
+  negative_size = allows (comment_words rule.NegativeSize) bs;
+  colour_octets = allows (comment_words rule.ColourOctets) bs;
+  unheard_timer = allows (comment_words rule.UnheardTimer) bs;
+  unread_variable = allows (comment_words rule.UnreadVariable) bs;
+  off_screen = allows (comment_words rule.OffScreen) bs;
+  covers_no_cell = allows (comment_words rule.CoversNoCell) bs;
+  cut_text = allows (comment_words rule.CutText) bs;
+  text_in_its_colour = allows (comment_words rule.TextInItsColour) bs;
+  content_to_come = allows (comment_words rule.ContentToCome) bs;
+}
+
+abbrev pub IsTurnedOff : List ℕ → Allowed → Type 0
+IsTurnedOff bs a = a ≡ allowed_in bs
+
+-- in the file at this place
+abbrev pub has_if : Option Allowed → Rule → Bool
+has_if None x = false
+has_if (Some a) x = has a x
+
+abbrev pub has_at : List Allowed → ℕ → Rule → Bool
+has_at all n x = has_if (slice_get all n) x
+
 abbrev pub file_allows : Option Source → List ℕ → Bool
 file_allows None words = false
 file_allows (Some f) words = allows words f.1.items
@@ -39,21 +69,10 @@ is_allowed a fs n = has a n.rule || file_allows (file_of fs n.at.group) (comment
 
 -- PLACES
 
-abbrev pub act_place_in : List ℕ → ℕ → ℕ → Option Place
-act_place_in bs object index = option_map (λ (m : Mark). place_at bs m.start) (mark_of (marks bs) object index)
-
-abbrev pub act_place_if : Option Source → ℕ → ℕ → Option Place
-act_place_if None object index = None
-act_place_if (Some f) object index = act_place_in f.1.items object index
-
--- where the action with this number stands, if it is found
-unfoldable pub act_place : List Source → ObjRef → ℕ → Option Place
-act_place fs r index = act_place_if (file_of fs r.group) r.number index
-
 unfoldable pub act_front : List Source → ObjRef → ℕ → List ℕ
-act_front fs r index = r.group ++ codes ":" ++ place_words (act_place fs r index)
+act_front fs r index = r.group ++ codes ":" ++ place_words (action_place fs r (index - 1))
 
--- the file, and the place in it of the object, or of its action with this number
+-- the file, and the place in it of the object, or of its action with this number, from 1 on
 abbrev pub note_front : List Source → ObjRef → ℕ → List ℕ
 note_front fs r n = if n == 0 then front_words fs r else act_front fs r n
 

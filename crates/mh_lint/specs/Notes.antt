@@ -33,7 +33,7 @@ use Rattle.mh_lint.specs.declared.rule.Rule.TheVariants as rule
 use Rattle.mh_lint.specs.declared.seen.Seen.{Seen}
 use Rattle.mh_lint.specs.Sights.{covers_none, cuts_words, hides_words, is_off}
 use Rattle.mh_lint.specs.Sources.{file_of, has_unknown, is_called_else, is_to_come}
-use Rattle.mh_lint.specs.Uses.{Uses, is_among, is_timing, is_used, uses, waits_in_vain}
+use Rattle.mh_lint.specs.Uses.{Uses, is_timing, is_used, uses, leave_alone}
 
 -- of the action with this number of the object, from 1 on, or with 0 of the object itself
 abbrev pub note : Rule → ObjRef → ℕ → Note
@@ -98,10 +98,9 @@ leaves gs _ t = false
 abbrev pub leaves_at_once : List (List ℕ) → Act → Bool
 leaves_at_once gs a = leaves gs a.name a.target
 
--- a timer is not heard, and no link of those that wait for one of its group waits in vain: else one of the numbers is the
--- mistake, and that link has its line
+-- a timer is left alone by what links hear
 abbrev pub is_lone : Uses → ObjRef → ℤ → Bool
-is_lone u r n = not (is_among u.heard r n) && not (list_any (waits_in_vain u.timed r) u.heard)
+is_lone u r n = leave_alone (record { heard = u.heard; timed = u.timed }) r n
 
 -- a timer that is set with a number of its own, and that no link hears
 abbrev pub sets_unheard : Uses → Target → List Argument → Bool

@@ -16,10 +16,10 @@ use Rattle.mh_model.specs.declared.config.Config.{Config}
 use Rattle.mh_model.specs.declared.object.Fixed.{Fixed}
 use Rattle.mh_model.specs.Property.{held, as_event, as_value}
 use Rattle.mh_model.specs.Service.{Service, group_parts, part_at}
-use Rattle.mh_text.specs.Landmarks.{Landmark, Sight, Class, Number, Name, landmarks}
 use Rattle.mh_told.specs.Reading.{Source}
 use Rattle.mh_places.specs.declared.place.Place.{Place}
-use Rattle.mh_places.specs.Places.{place_at, place_text}
+use Rattle.mh_places.specs.Directory.{object_place}
+use Rattle.mh_places.specs.Places.{place_text}
 use Rattle.mh_alive.specs.Sendings.{is_key_data}
 use Rattle.mh_lint.specs.declared.finding.Finding.{Finding}
 use Rattle.mh_lint.specs.declared.finding.Finding.TheVariants as finding
@@ -29,29 +29,13 @@ use Rattle.mh_lint.specs.Findings.{is_unreached, waits_beyond}
 
 -- Places
 
--- the number of this ingredient, or the class of the group itself, whose number is 0
-abbrev pub is_object : ℕ → Sight → Bool
-is_object n Class = n == 0
-is_object n (Number m) = n == m
-is_object n (Name w) = false
-
-unfoldable pub place_in : List ℕ → ℕ → Option Place
-place_in bs n = option_map (λ (l : Landmark). place_at bs l.start) (find (λ (l : Landmark). is_object n l.sight) (landmarks bs))
-
-abbrev pub place_if : Option Source → ℕ → Option Place
-place_if None n = None
-place_if (Some f) n = place_in f.1.items n
-
-unfoldable pub place_of : List Source → ObjRef → Option Place
-place_of fs r = place_if (find (λ (f : Source). bytes_eq f.0 r.group) fs) r.number
-
 unfoldable pub place_words : Option Place → List ℕ
 place_words None = []
 place_words (Some p) = place_text p ++ codes ":"
 
 -- the file, and the place in it where that is found
 unfoldable pub front_words : List Source → ObjRef → List ℕ
-front_words fs r = r.group ++ codes ":" ++ place_words (place_of fs r)
+front_words fs r = r.group ++ codes ":" ++ place_words (object_place fs r)
 
 -- Objects
 

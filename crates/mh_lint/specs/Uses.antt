@@ -1,7 +1,9 @@
 -- What the actions of a service are done to, wherever they stand and whether or not they are ever done; and what links wait for
 -- timers.
-use Rattle.std.specs.Prelude.{Bool, true, false, not, if◌then◌else◌, List, [], ◌∷◌, ◌++◌, map, Option, Some, None, ℤ}
+use Rattle.std.specs.Prelude.{◌≡◌, Bool, true, false, not, ◌&&◌, ◌||◌, if◌then◌else◌, List, [], ◌∷◌, ◌++◌, map, Option, Some, None, ℤ}
 use Rattle.std.specs.List.{flat_map, list_any}
+use Rattle.std.specs.Map.{lookup}
+use Rattle.std.specs.Option.{option_map_or}
 use Rattle.std.specs.Ordering.{int_eq}
 use Rattle.mh_base.specs.declared.event.EventType.{EventType}
 use Rattle.mh_base.specs.declared.event.EventType.TheVariants as event
@@ -21,7 +23,7 @@ use Rattle.mh_model.specs.declared.object.Fixed.{Fixed}
 use Rattle.mh_model.specs.declared.object.member.Member.{Member}
 use Rattle.mh_model.specs.Effects.{actions}
 use Rattle.mh_model.specs.Property.{held, as_event, as_value}
-use Rattle.mh_model.specs.Reference.{same_ref}
+use Rattle.mh_model.specs.Reference.{same_key, same_ref}
 use Rattle.mh_model.specs.Service.{Service}
 use Rattle.mh_model.specs.Tokens.{members}
 use Rattle.mh_lint.specs.declared.timers.Timers.{Timers}
@@ -169,6 +171,19 @@ may_be r (target.Through x) = true
 abbrev pub is_used : List Target → ObjRef → Bool
 is_used ts r = list_any (may_be r) ts
 
+-- by what that is found: the objects that are named, and whether a variable is gone through
+
+abbrev pub is_named : ObjRef → Target → Bool
+is_named r (target.Direct x) = same_ref r x
+is_named r (target.Through x) = false
+
+abbrev pub is_through : Target → Bool
+is_through (target.Direct x) = false
+is_through (target.Through x) = true
+
+abbrev pub AreFound : List Target → List ObjRef → Bool → Type 0
+AreFound ts named through = (r : ObjRef) → is_used ts r ≡ (through || list_any (same_key r) named)
+
 -- the timer with this number of the group may be one of these
 abbrev pub has_number : Option ℤ → ℤ → Bool
 has_number None n = true
@@ -187,3 +202,39 @@ is_unset ts r (Some n) = not (is_among ts r n)
 
 abbrev pub waits_in_vain : List Timers → ObjRef → Timers → Bool
 waits_in_vain ts r h = if same_ref r h.at then is_unset ts r h.id else false
+
+-- what links hear of timers, and which actions set
+pub record KnownTimers : Type 0 where
+  pub heard : List Timers
+  pub timed : List Timers
+
+-- the timer is not heard, and no link of those that wait for one of its group waits in vain: else one of the numbers is the
+-- mistake, and that link has its line
+abbrev pub leave_alone : KnownTimers → ObjRef → ℤ → Bool
+leave_alone k r n = not (is_among k.heard r n) && not (list_any (waits_in_vain k.timed r) k.heard)
+
+-- by what that is found: the numbers of each group
+
+pub record Numbers : Type 0 where
+  pub has_all : Bool
+  pub numbers : List ℤ
+
+abbrev pub numbers_have : Numbers → ℤ → Bool
+numbers_have x n = x.has_all || list_any (int_eq n) x.numbers
+
+abbrev pub table_has : List (ObjRef × Numbers) → ObjRef → ℤ → Bool
+table_has es r n = option_map_or (λ (x : Numbers). numbers_have x n) (lookup (same_key r) es) false
+
+abbrev pub lacks : List (ObjRef × Numbers) → ObjRef → Type 0
+lacks es r = lookup (same_key r) es ≡ None
+
+abbrev pub AreTabled : List Timers → List (ObjRef × Numbers) → Type 0
+AreTabled ts es = (r : ObjRef) (n : ℤ) → table_has es r n ≡ is_among ts r n
+
+-- the groups of which a link waits in vain
+
+abbrev pub is_key_of : List ObjRef → ObjRef → Bool
+is_key_of ks r = list_any (same_key r) ks
+
+abbrev pub AreVain : List Timers → List Timers → List ObjRef → Type 0
+AreVain ts hs ks = (r : ObjRef) → is_key_of ks r ≡ list_any (waits_in_vain ts r) hs

@@ -5,10 +5,9 @@ ghost use Rattle.std.specs.Prelude.{◌≡◌};
 ghost use Rattle.std.specs.List.{list_any};
 ghost use Rattle.mh_model.specs.Late.{is_late_scene};
 ghost use Rattle.mh_lint.specs.Notes as spec;
-ghost use Rattle.mh_lint.specs.Uses.{waits_in_vain};
 
 use crate::timers::Timers;
-use crate::uses::{Uses, is_among, is_timing, waits_in_vain};
+use crate::uses::{Uses, is_timing};
 use mh_base::{GroupName, ObjRef, Value};
 use mh_group::ActionName;
 use mh_model::{Act, Argument, Target};
@@ -138,15 +137,7 @@ pub(crate) fn leaves_at_once(late: &[GroupName], act: &Act) -> bool
 fn is_lone(uses: &Uses, group: &ObjRef, number: i32) -> bool
     ensures { result ≡ spec.is_lone uses.now group.now number }
 {
-    let (heard, timed) = (uses.heard.as_slice(), uses.timed.as_slice());
-    !is_among(heard, group, number) && !has_vain(timed, group, heard)
-}
-
-/// Whether a link waits in vain for a timer of the group.
-fn has_vain(timed: &[Timers], group: &ObjRef, heard: &[Timers]) -> bool
-    ensures { result ≡ list_any (waits_in_vain timed.now group.now) heard.now }
-{
-    heard.iter().any(|one| waits_in_vain(timed, group, one))
+    uses.timers.leave_alone(group, number)
 }
 
 /// Whether a timer is set with a number of its own, and no link hears it.

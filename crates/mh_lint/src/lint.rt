@@ -12,6 +12,7 @@ ghost use Rattle.mh_lint.specs.Telling.{never_words};
 
 use crate::finding::Finding;
 use crate::findings::findings_of;
+use crate::grounds::Grounds;
 use crate::note_lines::put_notes;
 use crate::notes::notes_of;
 use crate::rule::Allowed;
@@ -44,8 +45,25 @@ pub fn lint_text(
     requires { IsFlowOf service.now flow.now }
     ensures { IfOk result (IsLintText asked service.now (flow_in service.now flow.now) files.now) }
 {
-    let mut text = never_text(alloc, service, flow, files, asked.all)?;
-    put_all_notes(alloc, &mut text, service, files, asked)?;
+    let grounds = Grounds::of(alloc, files)?;
+    let text = lint_by(alloc, service, flow, &grounds, asked);
+    drop(grounds);
+    text
+}
+
+/// The same, by what is known of the files.
+fn lint_by(
+    alloc: Global,
+    service: &Equipped<'_>,
+    flow: &Flow,
+    grounds: &Grounds<'_>,
+    asked: Asked,
+) -> Result<Text, AllocError>
+    requires { IsFlowOf service.now flow.now }
+    ensures { IfOk result (IsLintText asked service.now (flow_in service.now flow.now) grounds.now) }
+{
+    let mut text = never_text(alloc, service, flow, grounds, asked.all)?;
+    put_all_notes(alloc, &mut text, service, grounds, asked)?;
     Ok(text)
 }
 
@@ -53,14 +71,14 @@ fn never_text(
     alloc: Global,
     service: &Equipped<'_>,
     flow: &Flow,
-    files: &[(GroupName, Vec<u8>)],
+    grounds: &Grounds<'_>,
     all: bool,
 ) -> Result<Text, AllocError>
     requires { IsFlowOf service.now flow.now }
-    ensures { IfOk result (IsNeverText all service.now (flow_in service.now flow.now) files.now) }
+    ensures { IfOk result (IsNeverText all service.now (flow_in service.now flow.now) grounds.now) }
 {
     let alive = alive_of(alloc, service, flow)?;
-    let text = text_by(alloc, service, flow, files, &alive, all);
+    let text = text_by(alloc, service, flow, grounds, &alive, all);
     drop(alive);
     text
 }
@@ -70,15 +88,15 @@ fn text_by(
     alloc: Global,
     service: &Equipped<'_>,
     flow: &Flow,
-    files: &[(GroupName, Vec<u8>)],
+    grounds: &Grounds<'_>,
     alive: &Alive,
     all: bool,
 ) -> Result<Text, AllocError>
     ensures { let configs = reached_configs flow.now.chart flow.now.rows in
-        IfOk result (λ text. text ≡ never_words service.now configs files.now (findings all service.now configs alive.now)) }
+        IfOk result (λ text. text ≡ never_words service.now configs grounds.now (findings all service.now configs alive.now)) }
 {
     let configs = flow.configs(alloc)?;
-    let text = text_of_findings(alloc, service, configs.as_slice(), files, alive, all);
+    let text = text_of_findings(alloc, service, configs.as_slice(), grounds, alive, all);
     drop(configs);
     text
 }
@@ -88,15 +106,15 @@ fn text_of_findings(
     alloc: Global,
     service: &Equipped<'_>,
     configs: &[Config],
-    files: &[(GroupName, Vec<u8>)],
+    grounds: &Grounds<'_>,
     alive: &Alive,
     all: bool,
 ) -> Result<Text, AllocError>
     ensures { IfOk result (λ text. text
-        ≡ never_words service.now configs.now files.now (findings all service.now configs.now alive.now)) }
+        ≡ never_words service.now configs.now grounds.now (findings all service.now configs.now alive.now)) }
 {
     let found = findings_of(alloc, service, configs, alive, all)?;
-    let text = lines_on(alloc, service, configs, files, found.as_slice());
+    let text = lines_on(alloc, service, configs, grounds, found.as_slice());
     drop(found);
     text
 }
@@ -105,13 +123,13 @@ fn lines_on(
     alloc: Global,
     service: &Equipped<'_>,
     configs: &[Config],
-    files: &[(GroupName, Vec<u8>)],
+    grounds: &Grounds<'_>,
     found: &[Finding],
 ) -> Result<Text, AllocError>
-    ensures { IfOk result (λ text. text ≡ never_words service.now configs.now files.now found.now) }
+    ensures { IfOk result (λ text. text ≡ never_words service.now configs.now grounds.now found.now) }
 {
     let mut text = Text::new(alloc);
-    put_findings(alloc, &mut text, service, configs, files, found)?;
+    put_findings(&mut text, service, configs, grounds.directory(), found)?;
     Ok(text)
 }
 
@@ -120,12 +138,12 @@ fn put_all_notes(
     alloc: Global,
     text: &mut Text,
     service: &Equipped<'_>,
-    files: &[(GroupName, Vec<u8>)],
+    grounds: &Grounds<'_>,
     asked: Asked,
 ) -> Result<(), AllocError>
     ensures { OnOk result (text.new
-        ≡ text.old ++ notes_words asked.allowed service.now files.now (notes_lem asked.all files.now service.now)) }
+        ≡ text.old ++ notes_words asked.allowed service.now grounds.now (notes_lem asked.all grounds.now service.now)) }
 {
-    let notes = notes_of(alloc, service, files, asked.all)?;
-    put_notes(alloc, text, asked.allowed, service, files, notes.as_slice())
+    let notes = notes_of(alloc, service, grounds.files(), asked.all)?;
+    put_notes(text, asked.allowed, service, grounds, notes.as_slice())
 }

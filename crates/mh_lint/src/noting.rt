@@ -11,7 +11,7 @@ use crate::seen::{Seen, seen_of};
 use crate::sharing::is_lost;
 use crate::sights::{covers_none, cuts_words, hides_words, is_off};
 use crate::sources::is_to_come;
-use crate::uses::{Uses, is_used};
+use crate::uses::Uses;
 use mh_base::{GroupName, ObjRef};
 use mh_group::{Attribute, Class};
 use mh_model::parts::effect_of;
@@ -102,7 +102,7 @@ fn does_nothing(part: &Fixed) -> bool
 fn is_unread(uses: &Uses, part: &Fixed) -> bool
     ensures { result ≡ spec.is_unread uses.now part.now }
 {
-    part.class.is_variable() && !is_used(uses.read.as_slice(), &part.key)
+    part.class.is_variable() && !uses.read.may_be(&part.key)
 }
 
 /// What is noted of a visible by what it looks like.

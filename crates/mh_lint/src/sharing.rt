@@ -5,7 +5,7 @@ ghost use Rattle.std.specs.Prelude.{◌≡◌};
 ghost use Rattle.std.specs.Option.{option_copied};
 ghost use Rattle.mh_lint.specs.Notes as spec;
 
-use crate::uses::{Uses, is_used};
+use crate::uses::Uses;
 use mh_base::{EventType, GroupName, Value};
 use mh_group::{Attribute, Class};
 use mh_model::Fixed;
@@ -48,6 +48,6 @@ pub(crate) fn is_lost(uses: &Uses, part: &Fixed) -> bool
         && can_end(part.class)
         && is_initially_active(part)
         && !is_shared(part)
-        && !is_used(uses.run.as_slice(), &part.key)
+        && !uses.run.may_be(&part.key)
         && !hears_start(part)
 }

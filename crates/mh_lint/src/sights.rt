@@ -9,7 +9,7 @@ ghost use Rattle.mh_model.specs.Looks.{area_by, opaque_white as opaque_white_lem
 ghost use Rattle.mh_lint.specs.Sights as spec;
 
 use crate::sights::words::cuts_box;
-use crate::uses::{Uses, is_used};
+use crate::uses::Uses;
 use mh_base::{Area, Colour};
 use mh_group::{Attribute, Class};
 use mh_model::Fixed;
@@ -25,25 +25,25 @@ const ROWS: i64 = 36;
 fn stays(uses: &Uses, part: &Fixed) -> bool
     ensures { result ≡ spec.stays uses.now part.now }
 {
-    !is_used(uses.moved.as_slice(), &part.key)
+    !uses.moved.may_be(&part.key)
 }
 
 fn keeps_size(uses: &Uses, part: &Fixed) -> bool
     ensures { result ≡ spec.keeps_size uses.now part.now }
 {
-    !is_used(uses.resized.as_slice(), &part.key)
+    !uses.resized.may_be(&part.key)
 }
 
 fn keeps_words(uses: &Uses, part: &Fixed) -> bool
     ensures { result ≡ spec.keeps_words uses.now part.now }
 {
-    !is_used(uses.reworded.as_slice(), &part.key)
+    !uses.reworded.may_be(&part.key)
 }
 
 fn keeps_colour(uses: &Uses, part: &Fixed) -> bool
     ensures { result ≡ spec.keeps_colour uses.now part.now }
 {
-    !is_used(uses.tinted.as_slice(), &part.key)
+    !uses.tinted.may_be(&part.key)
 }
 
 fn area_by(size: (i32, i32), position: (i32, i32)) -> Area

@@ -7,13 +7,12 @@ ghost use Rattle.std.specs.Option.{option_copied};
 ghost use Rattle.mh_lint.specs.Telling as spec;
 
 use crate::finding::Finding;
-use crate::place::place_of;
 use crate::reasons::{Lack, put_idle_reason, put_link_reason};
 use mh_base::{EventType, GroupName, ObjRef, Value};
 use mh_flow::Equipped;
 use mh_group::event_word;
 use mh_model::{Config, Fixed};
-use mh_places::{Place, put_place};
+use mh_places::{Directory, Place, put_place};
 use mh_told::text::Text;
 use std::alloc::{AllocError, Global};
 
@@ -33,17 +32,15 @@ pub(crate) fn put_front_place(text: &mut Text, place: Option<Place>) -> Result<(
 /// Puts the file, and the place in it where that is found.
 #[tactic(auto, unfolding(crate::specs::Telling::front_words))]
 pub(crate) fn put_front(
-    alloc: Global,
     text: &mut Text,
-    files: &[(GroupName, Vec<u8>)],
+    directory: &Directory<'_>,
     at: &ObjRef,
 ) -> Result<(), AllocError>
-    ensures { OnOk result (text.new ≡ text.old ++ spec.front_words files.now at.now) }
+    ensures { OnOk result (text.new ≡ text.old ++ spec.front_words directory.now at.now) }
 {
-    let place = place_of(alloc, files, at)?;
     text.put(at.group.as_bytes())?;
     text.put(b":")?;
-    put_front_place(text, place)
+    put_front_place(text, directory.object_place(at))
 }
 
 #[tactic(auto, unfolding(crate::specs::Telling::class_words))]
@@ -238,18 +235,17 @@ fn object_of(finding: &Finding) -> &ObjRef
 /// Puts the line of a finding.
 #[tactic(auto, unfolding(crate::specs::Telling::finding_words))]
 pub fn put_finding(
-    alloc: Global,
     text: &mut Text,
     service: &Equipped<'_>,
     configs: &[Config],
-    files: &[(GroupName, Vec<u8>)],
+    directory: &Directory<'_>,
     finding: &Finding,
 ) -> Result<(), AllocError>
     ensures { OnOk result (text.new
-        ≡ text.old ++ spec.finding_words service.now configs.now files.now finding.now) }
+        ≡ text.old ++ spec.finding_words service.now configs.now directory.now finding.now) }
 {
     let at = object_of(finding);
-    put_front(alloc, text, files, at)?;
+    put_front(text, directory, at)?;
     text.put(b" never: ")?;
     put_object(text, service, at)?;
     put_words(text, service, configs, finding)?;
@@ -258,18 +254,17 @@ pub fn put_finding(
 
 /// Puts the lines of all findings, where these configurations are reached.
 pub fn put_findings(
-    alloc: Global,
     text: &mut Text,
     service: &Equipped<'_>,
     configs: &[Config],
-    files: &[(GroupName, Vec<u8>)],
+    directory: &Directory<'_>,
     found: &[Finding],
 ) -> Result<(), AllocError>
     ensures { OnOk result (text.new
-        ≡ text.old ++ spec.never_words service.now configs.now files.now found.now) }
+        ≡ text.old ++ spec.never_words service.now configs.now directory.now found.now) }
 {
     for finding in found {
-        put_finding(alloc, text, service, configs, files, finding)?;
+        put_finding(text, service, configs, directory, finding)?;
     }
     Ok(())
 }

@@ -7,11 +7,13 @@ ghost use Rattle.mh_model.specs.Effects.{actions};
 ghost use Rattle.mh_model.specs.Tokens.{member_actions};
 ghost use Rattle.mh_lint.specs.Uses as spec;
 
-use crate::timers::Timers;
+use crate::targets::Targets;
+use crate::timers::{KnownTimers, TimerSet, Timers};
 use crate::uses::reading::{
     push_added, push_changed, push_grouped, push_heard, push_listed, push_read, push_set,
 };
 use crate::uses::{Change, Uses};
+use mh_base::both;
 use mh_flow::Equipped;
 use mh_group::{ActionName, Attribute};
 use mh_model::parts::{effect_of, members};
@@ -143,32 +145,34 @@ fn push_all_grouped(targets: &mut Vec<Target>, objects: &[FixedPart]) -> Result<
 }
 
 /// What is done to which actions change this.
-fn changed_of(alloc: Global, change: Change, acts: &[Act]) -> Result<Vec<Target>, AllocError>
-    ensures { IfOk result (λ targets. targets.items ≡ flat_map (spec.changed_by change) acts.now) }
+fn changed_of(alloc: Global, change: Change, acts: &[Act]) -> Result<Targets, AllocError>
+    ensures { IfOk result (λ targets. targets ≡ flat_map (spec.changed_by change) acts.now) }
 {
     let mut targets = Vec::new(alloc);
     push_all_changed(&mut targets, change, acts)?;
-    Ok(targets)
+    Targets::of(alloc, targets)
 }
 
 /// What is moved.
-fn moved_of(alloc: Global, objects: &[FixedPart], acts: &[Act]) -> Result<Vec<Target>, AllocError>
-    ensures { IfOk result (λ targets. targets.items ≡ (spec.uses_of objects.now acts.now).moved) }
+fn moved_of(alloc: Global, objects: &[FixedPart], acts: &[Act]) -> Result<Targets, AllocError>
+    ensures { IfOk result (λ targets. targets ≡ (spec.uses_of objects.now acts.now).moved) }
 {
-    let mut targets = changed_of(alloc, Change::Position, acts)?;
+    let mut targets = Vec::new(alloc);
+    push_all_changed(&mut targets, Change::Position, acts)?;
     push_all_added(&mut targets, acts)?;
     push_all_listed(&mut targets, objects)?;
-    Ok(targets)
+    Targets::of(alloc, targets)
 }
 
 /// What is run.
-fn run_of(alloc: Global, objects: &[FixedPart], acts: &[Act]) -> Result<Vec<Target>, AllocError>
-    ensures { IfOk result (λ targets. targets.items ≡ (spec.uses_of objects.now acts.now).run) }
+fn run_of(alloc: Global, objects: &[FixedPart], acts: &[Act]) -> Result<Targets, AllocError>
+    ensures { IfOk result (λ targets. targets ≡ (spec.uses_of objects.now acts.now).run) }
 {
-    let mut targets = changed_of(alloc, Change::Running, acts)?;
+    let mut targets = Vec::new(alloc);
+    push_all_changed(&mut targets, Change::Running, acts)?;
     push_all_added(&mut targets, acts)?;
     push_all_grouped(&mut targets, objects)?;
-    Ok(targets)
+    Targets::of(alloc, targets)
 }
 
 fn push_all_read(targets: &mut Vec<Target>, acts: &[Act]) -> Result<(), AllocError>
@@ -181,12 +185,12 @@ fn push_all_read(targets: &mut Vec<Target>, acts: &[Act]) -> Result<(), AllocErr
 }
 
 /// Which variables are read.
-fn read_of(alloc: Global, acts: &[Act]) -> Result<Vec<Target>, AllocError>
-    ensures { IfOk result (λ targets. targets.items ≡ flat_map spec.read_by acts.now) }
+fn read_of(alloc: Global, acts: &[Act]) -> Result<Targets, AllocError>
+    ensures { IfOk result (λ targets. targets ≡ flat_map spec.read_by acts.now) }
 {
     let mut targets = Vec::new(alloc);
     push_all_read(&mut targets, acts)?;
-    Ok(targets)
+    Targets::of(alloc, targets)
 }
 
 fn push_all_heard(heard: &mut Vec<Timers>, objects: &[FixedPart]) -> Result<(), AllocError>
@@ -199,12 +203,12 @@ fn push_all_heard(heard: &mut Vec<Timers>, objects: &[FixedPart]) -> Result<(), 
 }
 
 /// What is heard of timers.
-fn heard_of(alloc: Global, objects: &[FixedPart]) -> Result<Vec<Timers>, AllocError>
-    ensures { IfOk result (λ heard. heard.items ≡ flat_map spec.heard_by objects.now) }
+fn heard_of(alloc: Global, objects: &[FixedPart]) -> Result<TimerSet, AllocError>
+    ensures { IfOk result (λ heard. heard ≡ flat_map spec.heard_by objects.now) }
 {
     let mut heard = Vec::new(alloc);
     push_all_heard(&mut heard, objects)?;
-    Ok(heard)
+    TimerSet::of(alloc, heard)
 }
 
 fn push_all_set(timed: &mut Vec<Timers>, acts: &[Act]) -> Result<(), AllocError>
@@ -217,12 +221,12 @@ fn push_all_set(timed: &mut Vec<Timers>, acts: &[Act]) -> Result<(), AllocError>
 }
 
 /// Which timers are set.
-fn timed_of(alloc: Global, acts: &[Act]) -> Result<Vec<Timers>, AllocError>
-    ensures { IfOk result (λ timed. timed.items ≡ flat_map spec.set_by acts.now) }
+fn timed_of(alloc: Global, acts: &[Act]) -> Result<TimerSet, AllocError>
+    ensures { IfOk result (λ timed. timed ≡ flat_map spec.set_by acts.now) }
 {
     let mut timed = Vec::new(alloc);
     push_all_set(&mut timed, acts)?;
-    Ok(timed)
+    TimerSet::of(alloc, timed)
 }
 
 fn is_transit(name: ActionName) -> bool
@@ -237,21 +241,67 @@ fn has_transition(acts: &[Act]) -> bool
     acts.iter().any(|act| is_transit(act.name))
 }
 
+/// What is known of timers.
+fn timers_of(alloc: Global, objects: &[FixedPart], acts: &[Act]) -> Result<KnownTimers, AllocError>
+    ensures { IfOk result (λ timers. timers ≡ record { heard = flat_map spec.heard_by objects.now; timed = flat_map spec.set_by acts.now }) }
+{
+    match both(heard_of(alloc, objects), timed_of(alloc, acts)) {
+        Ok((heard, timed)) => KnownTimers::of(alloc, heard, timed),
+        Err(why) => Err(why),
+    }
+}
+
+/// What is changed: what is moved and given another size; other words and another colour of its text.
+type Changed = ((Targets, Targets), (Targets, Targets));
+
+/// What is run, and which variables are read; and timers.
+type Other = ((Targets, Targets), KnownTimers);
+
+/// All of it, each made by a call that ends with it, so that none stands beside a `?`.
+fn uses_with(parts: (Changed, Other), has_transition: bool) -> Uses
+    ensures { result ≡ record {
+      moved = parts.0.0.0;
+      resized = parts.0.0.1;
+      reworded = parts.0.1.0;
+      tinted = parts.0.1.1;
+      run = parts.1.0.0;
+      read = parts.1.0.1;
+      heard = parts.1.1.heard;
+      timed = parts.1.1.timed;
+      has_transition = has_transition;
+    } }
+{
+    let (((moved, resized), (reworded, tinted)), ((run, read), timers)) = parts;
+    Uses {
+        moved,
+        resized,
+        reworded,
+        tinted,
+        run,
+        read,
+        timers,
+        has_transition,
+    }
+}
+
 /// What these objects hear, and these actions are done to.
 fn uses_in(alloc: Global, objects: &[FixedPart], acts: &[Act]) -> Result<Uses, AllocError>
     ensures { IfOk result (λ uses. uses ≡ spec.uses_of objects.now acts.now) }
 {
-    Ok(Uses {
-        moved: moved_of(alloc, objects, acts)?,
-        resized: changed_of(alloc, Change::Size, acts)?,
-        reworded: changed_of(alloc, Change::Words, acts)?,
-        tinted: changed_of(alloc, Change::Colour, acts)?,
-        run: run_of(alloc, objects, acts)?,
-        read: read_of(alloc, acts)?,
-        heard: heard_of(alloc, objects)?,
-        timed: timed_of(alloc, acts)?,
-        has_transition: has_transition(acts),
-    })
+    let boxes = both(
+        moved_of(alloc, objects, acts),
+        changed_of(alloc, Change::Size, acts),
+    );
+    let words = both(
+        changed_of(alloc, Change::Words, acts),
+        changed_of(alloc, Change::Colour, acts),
+    );
+    let lives = both(run_of(alloc, objects, acts), read_of(alloc, acts));
+    let other = both(lives, timers_of(alloc, objects, acts));
+    match both(both(boxes, words), other) {
+        Ok(parts) => Ok(uses_with(parts, has_transition(acts))),
+        Err(why) => Err(why),
+    }
 }
 
 /// What there is of this in all objects of the service and all actions of all their effects.

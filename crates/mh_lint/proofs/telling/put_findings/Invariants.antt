@@ -4,4 +4,4 @@ use Rattle.mh_lint.proofs.telling.put_findings.Given as goal
 
 abbrev pub invariant-loop-finding : goal.invariant-loop-finding
 invariant-loop-finding l =
-    l.text ++ never_words l.service l.configs l.files (drop l.finding-index l.found) ≡ l.initial.text ++ never_words l.service l.configs l.files l.found
+    l.text ++ never_words l.service l.configs l.directory (drop l.finding-index l.found) ≡ l.initial.text ++ never_words l.service l.configs l.directory l.found
