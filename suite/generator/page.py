@@ -79,6 +79,7 @@ class Page:
         if self.asks:
             self._answering()
         self.scene.items = self.before.items + self.scene.items
+        self.scene.keyed.update(self.before.keyed)
         if self.stays:
             self.app.link(0, "IsRunning", [Raw('TransitionTo (("~/s" 0))')])
         elif "OnStartUp" not in self.app.fields:

@@ -40,7 +40,6 @@ def sized():
         page = Page(log=False)
         for place, number in enumerate(part):
             page.scene.variable(20 + place, number)
-        page.on("red", act("Add", 20, 0))
         page.ask(*range(20, 20 + len(part)))
         yield from both(page, "integers-" + half, "Integers of each length", "text")
     for size in (127, 128, 256, 65000):
@@ -59,12 +58,12 @@ def both(page, name, rule, feed):
     """One case a notation: the same groups."""
     groups = {group.path: group.text().encode() for group in page._assembled()}
     yield Case("text-" + name, rule, feed, groups, {}, [])
-    yield Case("binary-" + name, rule, feed, {path: encoded(text) for path, text in groups.items()}, {}, [])
+    yield Case("binary-" + name, rule, feed, {path: encoded(text) for path, text in groups.items()}, {}, [], written=groups)
 
 
 def binary():
     for name, text in SPACED.items():
-        yield Case("binary-" + name, "The same groups in the binary notation", "red green yellow blue", {"a": encoded(START), "s": encoded(text.encode())}, {}, [])
+        yield Case("binary-" + name, "The same groups in the binary notation", "red green yellow blue", {"a": encoded(START), "s": encoded(text.encode())}, {}, [], written=scene(text))
 
 
 TWINS = ("indirect/visibles", "indirect/drawings", "indirect/fields", "indirect/groups", "indirect/events", "indirect/asked", "values/set", "values/test-kinds", "programs/called", "links/data", "stuck/kind-data")
@@ -76,7 +75,7 @@ def twins():
     for case in all_cases(only={name.partition("/")[0] for name in TWINS}):
         if case.id in TWINS:
             service = {path: encoded(text) for path, text in case.service.items()}
-            yield Case("binary-" + case.id.replace("/", "-"), case.rule, " ".join(step.word + ("" if step.captured else ",") for step in case.steps), service, case.files, case.late, lenient=case.lenient)
+            yield Case("binary-" + case.id.replace("/", "-"), case.rule, " ".join(step.word + ("" if step.captured else ",") for step in case.steps), service, case.files, case.late, lenient=case.lenient, written=case.service)
 
 
 def bounds():
@@ -104,8 +103,8 @@ def mixed():
     page.scene.rectangle(10, 24, 32, 24, 32, RED)
     page.on("red", act("SetPosition", 10, 240, 32))
     groups = {group.path: group.text().encode() for group in page._assembled()}
-    yield Case("mixed", "An application in one notation, its scene in the other", "red", {"a": groups["a"], "s": encoded(groups["s"])}, {}, [])
-    yield Case("mixed-otherwise", "An application in one notation, its scene in the other", "red", {"a": encoded(groups["a"]), "s": groups["s"]}, {}, [])
+    yield Case("mixed", "An application in one notation, its scene in the other", "red", {"a": groups["a"], "s": encoded(groups["s"])}, {}, [], written=groups)
+    yield Case("mixed-otherwise", "An application in one notation, its scene in the other", "red", {"a": encoded(groups["a"]), "s": groups["s"]}, {}, [], written=groups)
 
 
 def cases():

@@ -38,7 +38,8 @@ def a_page(**fields):
 ACTIONS = {
     "running": ["Run", "Stop", "Preload", "Unload"],
     "links": ["Activate", "Deactivate"],
-    "highlight": [("SetHighlightStatus", True), ("SetInteractionStatus", True)],
+    "highlight": [("SetHighlightStatus", True)],
+    "interaction": [("SetInteractionStatus", True), ("SetInteractionStatus", False)],
     "art": [("SetFillColour", bytes(4)), ("SetLineColour", bytes(4)), ("SetLineWidth", 1)],
     "drawing": ["Clear", ("DrawLine", 0, 0, 24, 24), ("DrawRectangle", 0, 0, 24, 24)],
     "boxes": [("SetPosition", 24, 96), ("SetBoxSize", 12, 16)],
