@@ -1,5 +1,5 @@
 """Files that are refused: nothing is played, and nothing is shown. Each has one mistake in a service that is good without it."""
-from ...binary import element, encoded, identifier, integer
+from ...binary import TOKEN, element, encoded, identifier, integer
 from ...case import Case
 from ...family import Family
 from ...page import Page
@@ -84,6 +84,23 @@ def of_limits():
         yield Case("service-no-group-" + name, "A file that does not begin as a group is none", "", scene(text), {}, [], lenient=True)
 
 
+def in_printed_form(text):
+    """A group as a converter prints it: one space between any two tokens."""
+    return b" ".join(match.group() for match in TOKEN.finditer(text) if match.lastgroup) + b"\n"
+
+
+def in_the_other_notation():
+    """Groups that are in the other notation as large as a file may be, and one octet larger: both are read, and a converter refuses the larger."""
+    numbers = b"( %s)" % (b"( %s) " % (b"1 " * 4000) * 5)
+    wide = lambda count: GOOD.replace(b"( (1 2) )", numbers).replace(b"'shown'", b"'%s'" % (b"x" * count))
+    high = lambda count: in_printed_form(GOOD.replace(b"'shown'", b"'%s%s'" % (b"=00" * 20000, b"x" * count)))
+    for size in (1048576, 1048577):
+        text = wide(900000 + size - len(encoded(wide(900000))))
+        yield Case("text-larger-in-binary-%d" % size, "A group that has so many octets in the binary notation; it is in the textual one", "red", {"a": START, "s": text}, {}, [])
+        text = high(900000 + size - len(high(900000)))
+        yield Case("binary-larger-in-text-%d" % size, "A group that has so many octets in its printed form; it is in the binary notation", "red", {"a": START, "s": encoded(text)}, {}, [], written={"a": START, "s": GOOD})
+
+
 def of_scenes_late():
     page = Page()
     page.scene.rectangle(10, 24, 32, 24, 32, RED)
@@ -95,5 +112,5 @@ def of_scenes_late():
 
 
 def cases():
-    for family in (in_text, in_binary, of_services, of_limits, of_scenes_late):
+    for family in (in_text, in_binary, of_services, of_limits, in_the_other_notation, of_scenes_late):
         yield from family()

@@ -260,6 +260,18 @@ def applications():
             yield page.case("%s-%d" % (way, place + 1), "Launch leaves scene and application and begins the other, without a scene; Quit ends", feed)
 
 
+def ended():
+    """Links and visibles that are run again while the application is quit: the engine has ended all the same."""
+    page = Page(stays=True)
+    page.app.link(11, "IsStopped", [act("Run", 10), act("Activate", 302), act("Activate", 303), act("SendEvent", 0, 10, Raw("EngineEvent"), 2)], number=301, Shared=True)
+    page.app.rectangle(11, 72, 32, 24, 32, GREEN, Shared=True)
+    page.app.link(0, "EngineEvent", [act("SetPosition", 10, 24, 96)], 1, number=302, Shared=True)
+    page.app.link(10, "EngineEvent", [act("SetFillColour", 10, BLUE)], 2, number=303, Shared=True)
+    page.app.rectangle(10, 24, 32, 24, 32, RED, Shared=True)
+    page.on("red", act("Quit", ref("a", 0)))
+    yield page.case("quit-revived", "An engine that has ended does nothing any more, whatever runs and listens: its last picture stays", "red engine:1 red")
+
+
 def closing_application():
     page = Page(stays=True)
     page.app.variable(900, "")
@@ -282,5 +294,5 @@ def closing_application():
 
 
 def cases():
-    for family in (closing, kept, stack_over, again, only_one, started, waiting_events, interaction_over, revived, revived_by_the_application, launched_anew, applications, closing_application):
+    for family in (closing, kept, stack_over, again, only_one, started, waiting_events, interaction_over, revived, revived_by_the_application, launched_anew, applications, ended, closing_application):
         yield from family()
