@@ -52,7 +52,8 @@ WRONG = {
     "negative": "class Scene -1\n", "hexadecimal": "class Scene 0x1f\n", "no-number": "class Scene \n", "two-words": "class Scene\n", "four-words": "class Scene 31 32\n", "two-spaces": "class  Scene 31\n",
     "space-in-front": " class Scene 31\n", "space-behind": "class Scene 31 \n", "tab": "class\tScene 31\n", "carriage-return": "class Scene 31\r\n", "comment-behind": "class Scene 31 # ours\n",
     "twice": "class Link 31\nclass Scene 31\nclass Link 32\n", "twice-alike": "attr Items 40\n\nattr Items 40\n", "last-line": "class Scene 31\nclass Link", "double-class": "class Link 3\n", "double-attr": "attr Items 1\n",
-    "double-action": "action Stop 100\n", "double-value": "value GInteger 60\n", "double-written": "action Stop 5\naction Run 5\n", "double-in-two": "value GInteger 60\nattr Items 1\n", "line-before-double": "class Link 3\nx\n",
+    "double-action": "action Stop 100\n", "double-value": "value GInteger 60\n", "double-written": "action Stop 5\naction Run 5\n", "double-in-two": "value GInteger 60\nattr Items 1\n", "line-before-double": "class Link 3\nx\n", "double-largest-class": "class Link 16\n", "double-largest-attr": "attr Items 38\n",
+    "double-largest-action": "action Run 169\n", "double-largest-value": "value ContentRef 66\n", "double-of-tag-0": "class Link 0\n",
 }
 
 
