@@ -93,6 +93,8 @@ class Case:
     def script(self):
         if "verdict" in self.facts:
             return "-\n"
+        if "line" in self.facts:
+            return "run\nshow\n%s\nrun\nshow\n" % self.facts["line"]
         lines = ["run", "show"]
         for step in self.steps:
             rests = [] if step.posted_only or step.kind in ("step", "run") else ["run"]

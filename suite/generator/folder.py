@@ -15,8 +15,8 @@ def facts_of(case, undone):
     for name in ("date", "exact", "verdict"):
         if name in case.facts:
             facts[name] = case.facts[name]
-    if "tags" in case.facts:
-        facts["tags"] = True
+    for name in {"tags", "line"} & set(case.facts):
+        facts[name] = True
     return facts
 
 

@@ -111,6 +111,21 @@ def of_scenes_late():
         yield case
 
 
+# Lines of a script that are wrong.
+LINES = {
+    "key-unknown": "key purple", "key-capital": "key Red", "key-number": "key 100", "key-without": "key", "key-two": "key red green", "tick-without": "tick", "tick-word": "tick x",
+    "tick-negative": "tick -1", "tick-past-32-bits": "tick 4294967296", "stream-past-31-bits": "stream 2147483648", "engine-past-31-bits": "engine 2147483648", "step-word": "step x",
+    "step-past-32-bits": "step 4294967296", "run-more": "run 5", "show-more": "show 1", "file-without-octets": "file x", "file-odd": "file x 414", "file-no-digit": "file x 4g", "file-no-path": "file ../x 41",
+    "file-quote": 'file x"y 41', "file-control": "file x\x7fy 41", "file-long-name": "file %s 41" % ("x" * 256), "scene-without": "scene", "scene-unknown": "scene t", "scene-no-digit": "scene s zz",
+    "scene-no-group": "scene s 41", "unknown": "press red", "capital": "KEY red", "two-spaces": "key  red", "space-in-front": " key red", "space-behind": "key red ", "tab": "key\tred", "carriage-return": "key red\r",
+}
+
+
+def of_scripts():
+    for name, line in LINES.items():
+        yield Case("script-" + name, "A line of a script that is wrong: " + name.replace("-", " "), "", {"a": START, "s": GOOD}, {}, [], refused=True, line=line)
+
+
 def cases():
-    for family in (in_text, in_binary, of_services, of_limits, in_the_other_notation, of_scenes_late):
+    for family in (in_text, in_binary, of_services, of_limits, in_the_other_notation, of_scenes_late, of_scripts):
         yield from family()
