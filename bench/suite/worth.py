@@ -40,11 +40,9 @@ def tell(tool, name, lines, top, more=()):
 def look_at_worth(tool, cases, smoke, top, each):
     """The shares of the smoke set, of what receivers show, of all in one list, and, where that is asked for, of each family."""
     cases = [case for case in cases if not case.facts.get("tags")]
-    conversions = list(converted(cases))
     tell(tool, "smoke", [listed(case) for case in cases if case.id in smoke], top)
     tell(tool, "receivers", [listed(case) for case in cases if case.facts["level"] != "tools"], top)
-    tell(tool, "conversions", conversions, top)
-    tell(tool, "full", [listed(case) for case in cases] + conversions, top, ["--survivors"])
+    tell(tool, "full", [listed(case) for case in cases] + list(converted(cases)), top, ["--survivors"])
     for family in (name.rpartition(".")[2] for name in NAMES if each):
         lines = [listed(case) for case in cases if case.id.startswith(family + "/")]
         if lines:

@@ -15,8 +15,7 @@ def facts_of(case, undone):
     for name in ("date", "exact", "verdict"):
         if name in case.facts:
             facts[name] = case.facts[name]
-    for name in {"tags", "line"} & set(case.facts):
-        facts[name] = True
+    facts.update({name: True for name in ("tags", "line") if name in case.facts})
     return facts
 
 
