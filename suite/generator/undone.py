@@ -109,12 +109,14 @@ def path_of(family):
 
 
 def write_family(family, undone):
-    """Keeps what is undone of all cases of a family: pairs of an id and effects by reason."""
-    os.makedirs(TOP, exist_ok=True)
-    with open(path_of(family), "w", encoding="utf-8", newline="\n") as file:
-        for name, found in undone:
-            if found:
-                file.write("case %s\n" % name + "".join("%s %s\n" % (word, ", ".join(effects)) for word, effects in found.items()))
+    """Keeps what is undone of the cases of a family that leave something undone: pairs of an id and effects by reason."""
+    told = ["case %s\n" % name + "".join("%s %s\n" % (word, ", ".join(effects)) for word, effects in found.items()) for name, found in undone if found]
+    if told:
+        os.makedirs(TOP, exist_ok=True)
+        with open(path_of(family), "w", encoding="utf-8", newline="\n") as file:
+            file.write("".join(told))
+    elif os.path.exists(path_of(family)):
+        os.remove(path_of(family))
 
 
 def read_family(family):
