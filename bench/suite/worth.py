@@ -18,9 +18,14 @@ def listed(case):
     return "\t".join([case.id, os.path.join(case.folder, "text"), script] + ([late] if os.path.exists(late) else []))
 
 
+def has_most(case):
+    """Whether the case's groups are converted here: those of families that have most of the notation, and those at the limits of a file."""
+    return case.id.partition("/")[0] in ("notation", "indirect", "stuck") or "-larger-in-" in case.id
+
+
 def converted(cases):
-    """The lines of all groups, each from its notation to the other."""
-    for case, text, der in distinct(cases):
+    """The lines of groups, each from its notation to the other."""
+    for case, text, der in distinct(filter(has_most, cases)):
         for path, way in ((text, "der"), (der, "text")):
             yield "\t".join(["%s/%s" % (case.id, os.path.relpath(path, case.folder)), path, way])
 
