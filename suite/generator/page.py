@@ -71,6 +71,7 @@ class Page:
         last.link(OBJECT, "TestEvent", [act("Append", ANSWER, held(NAMED)), act("Append", ANSWER, ".")], True)
         said = [act("SetVariable", ANSWER, typed(""))] + self.asks + [act("SetData", ANSWERED, held(ANSWER))]
         last.link(0, "UserInput", said, KEYS["text"])
+        self.scene.keyed[last.items[-1]] = KEYS["text"]
 
     def _assembled(self):
         """The groups, put together once: a page may make several cases."""
@@ -79,7 +80,6 @@ class Page:
         if self.asks:
             self._answering()
         self.scene.items = self.before.items + self.scene.items
-        self.scene.keyed.update(self.before.keyed)
         if self.stays:
             self.app.link(0, "IsRunning", [Raw('TransitionTo (("~/s" 0))')])
         elif "OnStartUp" not in self.app.fields:
