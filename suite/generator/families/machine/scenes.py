@@ -199,7 +199,7 @@ def revived_by_the_application():
             travel.log(group, 0, "UserInput", group.path + "-key")
             travel.log(group, ref("a", 10), "InteractionCompleted", "done")
         travel.s.link(0, "UserInput", [leave], 101)
-        for place, feed in enumerate(("green 2 tick:2000 select 3 file:late=words 4", "1 green 5 cancel 6 red 7")):
+        for place, feed in enumerate(("green 2 tick:2000 select 3 file:late=words 4", "1 tick:2000 green 5 cancel 6 red 7")):
             yield travel.case("revived-application-%s-%d" % (way, place + 1), "What the application's objects begin while they halt goes with a Launch, and goes on over a transition: interaction, timers, events that wait, a file that is awaited", feed)
 
 
