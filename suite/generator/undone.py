@@ -13,7 +13,7 @@ TOP = os.path.join(os.path.dirname(os.path.dirname(os.path.abspath(__file__))), 
 WHY = {
     "listens": "it writes into the log what it hears, and hears nothing: that nothing is told is part of the rule",
     "key": "the key for which it waits is not pressed in its scene, or goes to another object",
-    "event": "the event for which it waits does not come: another case has the same service, and feeds it",
+    "event": "the event for which it waits does not come while it listens: that is part of the rule, or another case has the same service, and feeds it",
     "slot": "no action calls this slot: the others are what is asked, or another case calls it",
     "group": "nothing leads there: that it is not entered is part of the rule, or another case goes there",
     "behind": "what stands behind a transition is thrown away",
@@ -35,8 +35,8 @@ def item_of(text, number):
 
 def writes_only(item):
     """Whether all that a link does is to write into the log."""
-    actions = re.findall(r":([A-Z]\w+) \(", item.partition(":LinkEffect")[2])
-    return bool(actions) and set(actions) <= {"Append", "SetData"}
+    actions = set(re.findall(r":([A-Z]\w+) \(", item.partition(":LinkEffect")[2])) - {"IndirectRef"}
+    return bool(actions) and actions <= {"Append", "SetData"}
 
 
 def kind_of(line, texts, away):

@@ -68,7 +68,6 @@ def over_groups():
     page.log(0, "UserInput", "s-red", 100)
     yield page.case("over-scenes", "Inputs that wait stay over a transition, and are the next scene's", "+green +red +red run +red +green +red +blue run", program=True)
     page = a_page()
-    page.app.link(0, "EngineEvent", [act("Quit", 0)], 1, Shared=True)
     page.on("green", act("Quit", ref("a", 0)))
     page.stays = True
     yield page.case("ended", "An engine that has ended takes nothing any more, and its picture stays", "red +green +red +blue run red blue", program=True)
