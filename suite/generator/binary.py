@@ -4,7 +4,8 @@ Each value of the notation is one element whatever attribute or action it stands
 """
 import re
 
-from .tables import ACTIONS, ACTION_TAG, ATTRIBUTES, CLASSES, EVENTS, JUSTIFICATIONS, WRAPPERS
+from .tables import ATTRIBUTES, EVENTS, JUSTIFICATIONS, WRAPPERS
+from .tags import Tags
 
 TOKEN = re.compile(rb"""\s+|//[^\n]*|(?P<mark>[{}()])|:(?P<key>[A-Za-z][A-Za-z0-9]*)|(?P<word>[A-Za-z]+)|(?P<int>-?[0-9]+)|"(?P<name>[^"]*)"|'(?P<octets>[^']*)'""")
 BOOLEAN, INTEGER, OCTETS, SEQUENCE = 0x01, 0x02, 0x04, 0x30
@@ -45,7 +46,8 @@ def unquoted(written):
 class Reader:
     """Reads tokens and hands out elements."""
 
-    def __init__(self, text):
+    def __init__(self, text, tags):
+        self.tags = tags
         found = (match for match in TOKEN.finditer(text) if match.lastgroup)
         self.tokens = [(match.lastgroup, match.group(match.lastgroup)) for match in found]
         self.at = 0
@@ -87,28 +89,28 @@ class Reader:
             self.next()
             name = self.next()[1]
             self.next()
-            return element(identifier(WRAPPERS[key], False), name)
+            return element(identifier(self.tags.values[key], False), name)
         if key in WRAPPERS:
-            return element(identifier(WRAPPERS[key]), self.value())
+            return element(identifier(self.tags.values[key]), self.value())
         self.next()
-        return element(identifier(ACTION_TAG + ACTIONS[key]), self.until(b")"))
+        return element(identifier(self.tags.actions[key]), self.until(b")"))
 
     def object(self):
         """A group or an item, behind its bracket."""
         kind = self.next()[1].decode()
         identity, fields = self.value(), []
         while not self.meets(b"}"):
-            number = ATTRIBUTES[self.next()[1].decode()]
+            name = self.next()[1].decode()
             parts = []
             while not self.meets(b"}") and not (self.tokens[self.at][0] == "key" and self.tokens[self.at][1].decode() in ATTRIBUTES):
                 parts.append(self.value())
-            fields.append((number, element(identifier(number), b"".join(parts))))
+            fields.append((ATTRIBUTES[name], element(identifier(self.tags.attributes[name]), b"".join(parts))))
         self.at += 1
-        return element(identifier(CLASSES[kind]), identity + b"".join(field for _, field in sorted(fields)))
+        return element(identifier(self.tags.classes[kind]), identity + b"".join(field for _, field in sorted(fields)))
 
 
-def encoded(text):
-    """The binary notation of a group's text."""
-    reader = Reader(text)
+def encoded(text, tags=None):
+    """The binary notation of a group's text, by the profile's tags or by others."""
+    reader = Reader(text, tags or Tags())
     reader.next()
     return reader.object()

@@ -69,7 +69,7 @@ class Case:
         found = {step.level() for step in self.steps}
         if self.files or self.late:
             found.add("files")
-        if "exact" in self.facts or "program" in self.facts:
+        if {"exact", "program", "tags"} & set(self.facts):
             found.add("program")
         if self.facts.get("refused") or "verdict" in self.facts or self.family.name == "refused":
             found.add("tools")
@@ -78,13 +78,23 @@ class Case:
     def level(self):
         return (["keys"] + self.needs())[-1]
 
+    def is_played(self):
+        """Whether there is something to show: no verdict, and nothing that is refused."""
+        return not self.facts.get("refused") and "verdict" not in self.facts
+
+    def texts(self):
+        """The groups as text, also where the case has them in the binary notation and says what they are written from."""
+        return {path: octets.decode("latin-1") for path, octets in self.facts.get("written", self.service).items()}
+
     def one_form(self):
         """Whether the case is about its files as they are written, so that both forms have the same."""
-        return self.family.name in ("notation", "refused")
+        return self.family.name in ("notation", "refused") or "tags" in self.facts and self.facts.get("refused")
 
     def script(self):
         if "verdict" in self.facts:
             return "-\n"
+        if "line" in self.facts:
+            return "run\nshow\n%s\nrun\nshow\n" % self.facts["line"]
         lines = ["run", "show"]
         for step in self.steps:
             rests = [] if step.posted_only or step.kind in ("step", "run") else ["run"]

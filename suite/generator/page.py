@@ -71,6 +71,7 @@ class Page:
         last.link(OBJECT, "TestEvent", [act("Append", ANSWER, held(NAMED)), act("Append", ANSWER, ".")], True)
         said = [act("SetVariable", ANSWER, typed(""))] + self.asks + [act("SetData", ANSWERED, held(ANSWER))]
         last.link(0, "UserInput", said, KEYS["text"])
+        self.scene.keyed[last.items[-1]] = KEYS["text"]
 
     def _assembled(self):
         """The groups, put together once: a page may make several cases."""

@@ -13,6 +13,7 @@ def of_redplay(program, service, script, late, facts):
     """That of `redplay play`, or of `redplay check` where a verdict is wanted."""
     words = [program, "check", service] if facts.get("verdict") else [program, "play", service, "--script", script]
     words += ["--late", late] if late else []
+    words += ["--tags", os.path.join(os.path.dirname(service), "tags")] if facts.get("tags") else []
     if not facts.get("verdict"):
         words += ["--lenient"] if facts["lenient"] else []
         words += ["--mjd", str(facts["date"])] if "date" in facts else []
@@ -23,6 +24,15 @@ def of_player(player, service, script, late, facts):
     """That of examples/embed/player.c, whose day is the one of `redplay` without an option."""
     words = [player] + (["--late", late] if late else []) + (["--lenient"] if facts["lenient"] else [])
     return words + [service, "--check" if facts.get("verdict") else script]
+
+
+def covered(redtry, folder):
+    """What `redtry cover` tells of a case."""
+    words = [redtry, "cover", os.path.join(folder, "text"), os.path.join(folder, "script")]
+    for name in ("late", "tags"):
+        path = os.path.join(folder, name)
+        words += ["--" + name, path] if os.path.exists(path) else []
+    return subprocess.run(words, stdout=subprocess.PIPE, check=True).stdout.decode("utf-8")
 
 
 def shown(words):

@@ -4,7 +4,7 @@ import importlib
 NAMES = ["picture.calibration", "machine.states", "machine.links", "machine.keys", "machine.values", "machine.indirect", "picture.visibles",
          "picture.overlap", "picture.shapes", "picture.layout", "widgets.fields", "widgets.buttons", "widgets.tokens", "widgets.lists",
          "machine.timers", "machine.streams", "machine.content", "machine.scenes", "machine.late", "machine.lock", "machine.programs",
-         "machine.stuck", "machine.queue", "files.names", "files.notation", "files.refused", "files.verdicts"]
+         "machine.stuck", "machine.queue", "files.names", "files.notation", "files.tags", "files.refused", "files.verdicts"]
 
 
 def families(only=None):

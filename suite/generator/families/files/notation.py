@@ -19,7 +19,7 @@ SPACED = {
     "all-spaces": """\n\t{  :Scene\r\n( "~/s"\t0 )\n:Items (\t{ :Text\n10 :OrigBoxSize\r240\n16 :OrigContent\t'far'}\n { :Link 11 :EventSource 0 :EventType\nUserInput :EventData 100 :LinkEffect ( :SetPosition\n( 10\t24 32\n) ) }\n) }\n\n \t""",
     "comments": """// the first line\n{:Scene // a class\n("~/s" 0)//close\n//\n// :Items ( )\n:Items ({:Text 10 :OrigBoxSize 240 16 // a box\r :OrigPosition 0 0\n :OrigContent 'a // b'} {:Link 11 :EventSource 0 :EventType UserInput :EventData 100 :LinkEffect (//\n:SetPosition (10 24// 99\n 32) ) }) } // the end""",
     "any-order": """{:Scene ("~/s" 0) :Items ({:Text 10 :TextWrapping true :OrigContent 'one two' :BackgroundColour '=00=00=FF=00' :OrigPosition 24 32 :InitiallyActive true :OrigBoxSize 48 48 :TextColour '=ff=00=00=00'} {:Link 11 :LinkEffect (:SetPosition (10 48 64)) :EventData 100 :EventType UserInput :EventSource 0}) :SceneCS 720 576 :InputEventReg 3 :OnStartUp ( :SetPosition (10 24 16) ) }""",
-    "octets": """{:Scene ("~/s" 0) :Items ({:Text 10 :OrigBoxSize 360 16 :OrigContent "quoted =41 'x'" } {:Text 11 :OrigBoxSize 360 16 :OrigPosition 0 16 :OrigContent '=41=4a=4A"=3d=27=7e=C3=a9' } {:Text 12 :OrigBoxSize 360 16 :OrigPosition 0 32 :OrigContent ' !#~ {:(x)} // no comment' } {:Text 13 :OrigBoxSize 360 16 :OrigPosition 0 48 :OrigContent "" } {:Text 14 :OrigBoxSize 360 16 :OrigPosition 0 64 :OrigContent '=30=39=61=66=46' } {:Rectangle 15 :OrigBoxSize 24 32 :OrigPosition 0 96 :OrigRefFillColour "=AA=" :OrigLineWidth 0} {:Rectangle 16 :OrigBoxSize 24 32 :OrigPosition 48 96 :OrigRefFillColour 'abc=00' :OrigLineWidth 0})}""",
+    "octets": """{:Scene ("~/s" 0) :Items ({:Text 10 :OrigBoxSize 360 16 :OrigContent "quoted =41 'x'" } {:Text 11 :OrigBoxSize 360 16 :OrigPosition 0 16 :OrigContent '=41=4a=4A"=3d=27=7e=C3=a9' } {:Text 12 :OrigBoxSize 360 16 :OrigPosition 0 32 :OrigContent ' !#~ {:(x)} // no comment' } {:Text 13 :OrigBoxSize 360 16 :OrigPosition 0 48 :OrigContent "" } {:Text 14 :OrigBoxSize 360 16 :OrigPosition 0 64 :OrigContent '=30=39=61=66=46' } {:Rectangle 15 :OrigBoxSize 24 32 :OrigPosition 0 96 :OrigRefFillColour "=AA=" :OrigLineWidth 0} {:Rectangle 16 :OrigBoxSize 24 32 :OrigPosition 48 96 :OrigRefFillColour 'abc=00' :OrigLineWidth 0} {:OStringVar 17 :OrigValue '=00=1F=20=26=27=28=3C=3D=3E=7E=7F=80=FF'})}""",
     "numbers": """{:Scene ("~/s" 0) :InputEventReg 003 :Items ({:Text 0010 :OrigBoxSize 0240 16 :OrigPosition -0 -00000016 :OrigContent 'numbers'} {:IntegerVar 20 :OrigValue 2147483647} {:IntegerVar 21 :OrigValue -2147483648} {:OStringVar 22 :OrigValue ''} {:OStringVar 23 :OrigValue ''} {:Link 11 :EventSource 00 :EventType UserInput :EventData 0100 :LinkEffect (:SetPosition (10 000000000000000024 32) :SetVariable (22 :GInteger :IndirectRef 20) :SetVariable (23 :GInteger :IndirectRef 21) :Append (22 :IndirectRef 23) :SetData (10 :IndirectRef 22))}) }""",
     "kept": """{:Scene ("any name" 0) :CHook 5 :OrigFont 'font' :FontAttributes 'plain.26' :OrigGCPriority 1 :ObjectInfo '=00' :StdID 'id' :StdVersion 1 :NextScenes ( ("~/t" 5) ("nowhere/../x" -1) ) :Items ({:Text 10 :StdVersion 2 :OrigBoxSize 240 16 :OrigContent 'kept' :OrigFont "x" :NextScenes ( )} {:Link 11 :CHook -1 :EventSource 0 :EventType UserInput :EventData 100 :LinkEffect (:SetPosition (10 24 32)) :ObjectInfo ''}) }""",
     "lists": """{:Scene ("~/s" 0) :Items ({:Rectangle 10 :OrigBoxSize 24 32 :OrigRefFillColour '=FF=00=00=00' :InitiallyActive false} {:TokenGroup 20 :TokenGroupItems ( (10 (:SetPosition (10 24 32)) ( ) (:SetPosition (10 72 32) :SetPosition (10 72 48))) (("~/s" 10)) (("s" 10) ( )) ) :MovementTable ( (2 1 3) ( ) (-1 0 3) ) } {:ListGroup 21 :Positions ( (240 32) (-24 0) ) :TokenGroupItems ( ) :MovementTable ( ) } {:ListGroup 22 :Positions ( ) } {:TokenGroup 23 } {:Link 11 :EventSource 0 :EventType UserInput :EventData 100 :LinkEffect (:CallActionSlot (20 1))} {:Link 12 :EventSource 0 :EventType UserInput :EventData 101 :LinkEffect (:CallActionSlot (20 3) :AddItem (21 1 10))} {:Link 13 :EventSource 0 :EventType UserInput :EventData 102 :LinkEffect ( )}) }""",
@@ -40,7 +40,6 @@ def sized():
         page = Page(log=False)
         for place, number in enumerate(part):
             page.scene.variable(20 + place, number)
-        page.on("red", act("Add", 20, 0))
         page.ask(*range(20, 20 + len(part)))
         yield from both(page, "integers-" + half, "Integers of each length", "text")
     for size in (127, 128, 256, 65000):
@@ -59,12 +58,12 @@ def both(page, name, rule, feed):
     """One case a notation: the same groups."""
     groups = {group.path: group.text().encode() for group in page._assembled()}
     yield Case("text-" + name, rule, feed, groups, {}, [])
-    yield Case("binary-" + name, rule, feed, {path: encoded(text) for path, text in groups.items()}, {}, [])
+    yield Case("binary-" + name, rule, feed, {path: encoded(text) for path, text in groups.items()}, {}, [], written=groups)
 
 
 def binary():
     for name, text in SPACED.items():
-        yield Case("binary-" + name, "The same groups in the binary notation", "red green yellow blue", {"a": encoded(START), "s": encoded(text.encode())}, {}, [])
+        yield Case("binary-" + name, "The same groups in the binary notation", "red green yellow blue", {"a": encoded(START), "s": encoded(text.encode())}, {}, [], written=scene(text))
 
 
 TWINS = ("indirect/visibles", "indirect/drawings", "indirect/fields", "indirect/groups", "indirect/events", "indirect/asked", "values/set", "values/test-kinds", "programs/called", "links/data", "stuck/kind-data")
@@ -76,7 +75,7 @@ def twins():
     for case in all_cases(only={name.partition("/")[0] for name in TWINS}):
         if case.id in TWINS:
             service = {path: encoded(text) for path, text in case.service.items()}
-            yield Case("binary-" + case.id.replace("/", "-"), case.rule, " ".join(step.word + ("" if step.captured else ",") for step in case.steps), service, case.files, case.late, lenient=case.lenient)
+            yield Case("binary-" + case.id.replace("/", "-"), case.rule, " ".join(step.word + ("" if step.captured else ",") for step in case.steps), service, case.files, case.late, lenient=case.lenient, written=case.service)
 
 
 def bounds():
@@ -104,8 +103,8 @@ def mixed():
     page.scene.rectangle(10, 24, 32, 24, 32, RED)
     page.on("red", act("SetPosition", 10, 240, 32))
     groups = {group.path: group.text().encode() for group in page._assembled()}
-    yield Case("mixed", "An application in one notation, its scene in the other", "red", {"a": groups["a"], "s": encoded(groups["s"])}, {}, [])
-    yield Case("mixed-otherwise", "An application in one notation, its scene in the other", "red", {"a": encoded(groups["a"]), "s": groups["s"]}, {}, [])
+    yield Case("mixed", "An application in one notation, its scene in the other", "red", {"a": groups["a"], "s": encoded(groups["s"])}, {}, [], written=groups)
+    yield Case("mixed-otherwise", "An application in one notation, its scene in the other", "red", {"a": encoded(groups["a"]), "s": groups["s"]}, {}, [], written=groups)
 
 
 def cases():

@@ -1,5 +1,5 @@
 """Files that are refused: nothing is played, and nothing is shown. Each has one mistake in a service that is good without it."""
-from ...binary import element, encoded, identifier, integer
+from ...binary import TOKEN, element, encoded, identifier, integer
 from ...case import Case
 from ...family import Family
 from ...page import Page
@@ -84,6 +84,23 @@ def of_limits():
         yield Case("service-no-group-" + name, "A file that does not begin as a group is none", "", scene(text), {}, [], lenient=True)
 
 
+def in_printed_form(text):
+    """A group as a converter prints it: one space between any two tokens."""
+    return b" ".join(match.group() for match in TOKEN.finditer(text) if match.lastgroup) + b"\n"
+
+
+def in_the_other_notation():
+    """Groups that are in the other notation as large as a file may be, and one octet larger: both are read, and a converter refuses the larger."""
+    numbers = b"( %s)" % (b"( %s) " % (b"1 " * 4000) * 5)
+    wide = lambda count: GOOD.replace(b"( (1 2) )", numbers).replace(b"'shown'", b"'%s'" % (b"x" * count))
+    high = lambda count: in_printed_form(GOOD.replace(b"'shown'", b"'%s%s'" % (b"=00" * 20000, b"x" * count)))
+    for size in (1048576, 1048577):
+        text = wide(900000 + size - len(encoded(wide(900000))))
+        yield Case("text-larger-in-binary-%d" % size, "A group that has so many octets in the binary notation; it is in the textual one", "red", {"a": START, "s": text}, {}, [])
+        text = high(900000 + size - len(high(900000)))
+        yield Case("binary-larger-in-text-%d" % size, "A group that has so many octets in its printed form; it is in the binary notation", "red", {"a": START, "s": encoded(text)}, {}, [], written={"a": START, "s": GOOD})
+
+
 def of_scenes_late():
     page = Page()
     page.scene.rectangle(10, 24, 32, 24, 32, RED)
@@ -94,6 +111,21 @@ def of_scenes_late():
         yield case
 
 
+# Lines of a script that are wrong.
+LINES = {
+    "key-unknown": "key purple", "key-capital": "key Red", "key-number": "key 100", "key-without": "key", "key-two": "key red green", "tick-without": "tick", "tick-word": "tick x",
+    "tick-negative": "tick -1", "tick-past-32-bits": "tick 4294967296", "stream-past-31-bits": "stream 2147483648", "engine-past-31-bits": "engine 2147483648", "step-word": "step x",
+    "step-past-32-bits": "step 4294967296", "run-more": "run 5", "show-more": "show 1", "file-without-octets": "file x", "file-odd": "file x 414", "file-no-digit": "file x 4g", "file-no-path": "file ../x 41",
+    "file-quote": 'file x"y 41', "file-control": "file x\x7fy 41", "file-long-name": "file %s 41" % ("x" * 256), "scene-without": "scene", "scene-unknown": "scene t", "scene-no-digit": "scene s zz",
+    "scene-no-group": "scene s 41", "unknown": "press red", "capital": "KEY red", "two-spaces": "key  red", "space-in-front": " key red", "space-behind": "key red ", "tab": "key\tred", "carriage-return": "key red\r",
+}
+
+
+def of_scripts():
+    for name, line in LINES.items():
+        yield Case("script-" + name, "A line of a script that is wrong: " + name.replace("-", " "), "", {"a": START, "s": GOOD}, {}, [], refused=True, line=line)
+
+
 def cases():
-    for family in (in_text, in_binary, of_services, of_limits, of_scenes_late):
+    for family in (in_text, in_binary, of_services, of_limits, in_the_other_notation, of_scenes_late, of_scripts):
         yield from family()

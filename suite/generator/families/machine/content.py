@@ -118,6 +118,15 @@ def octets():
     yield page.case("any-octets", "The octets of a file are the text, whatever they are", "red text")
 
 
+def begins():
+    """Files that begin with the tag of an item, or with another element, are no groups."""
+    page = Page()
+    for place, octet in enumerate((0x30, 0x60, 0x80, 0x9F, 0xA2, 0xA3, 0xB0, 0xBF)):
+        page.scene.words(10 + place, 24, 16 * place, 240, 16, file_named("x%02X" % octet))
+        page.files["x%02X" % octet] = bytes([octet]) + b" begins"
+    yield page.case("begins", "A file is a group only where it begins as an application or a scene does", "")
+
+
 def as_large():
     for size in (65535, 65536):
         page = a_text("Text", file_named("x"))
@@ -126,5 +135,5 @@ def as_large():
 
 
 def cases():
-    for family in (included, there, coming, order_of_waiting, names, octets, as_large):
+    for family in (included, there, coming, order_of_waiting, names, octets, begins, as_large):
         yield from family()

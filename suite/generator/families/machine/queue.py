@@ -68,7 +68,6 @@ def over_groups():
     page.log(0, "UserInput", "s-red", 100)
     yield page.case("over-scenes", "Inputs that wait stay over a transition, and are the next scene's", "+green +red +red run +red +green +red +blue run", program=True)
     page = a_page()
-    page.app.link(0, "EngineEvent", [act("Quit", 0)], 1, Shared=True)
     page.on("green", act("Quit", ref("a", 0)))
     page.stays = True
     yield page.case("ended", "An engine that has ended takes nothing any more, and its picture stays", "red +green +red +blue run red blue", program=True)
@@ -95,6 +94,16 @@ def files():
                         feed + " +file:g1=a +file:g2=c +file:g1=b +file:g3=d +file:f5=new +file:g2=e run green file:g3=1 file:g4=2 file:g1=again", program=True)
 
 
+def late_scenes():
+    """The file of a scene that is not late, or that waits already, is refused, and takes no place in the queue."""
+    page = a_page()
+    page.group("t").words(10, 24, 64, 240, 16, "t")
+    page.late = ["t"]
+    page.on("green", act("TransitionTo", ref("t", 0)))
+    for name, first in (("twice", "+scene:t +scene:t"), ("not-late", "+scene:s +scene:t")):
+        yield page.case("scene-" + name, "The file of a late scene is taken once; one that waits already, or that is not late, is refused and takes no place among the 256", first + " " + " ".join(["+red"] * 255) + " run blue green", program=True)
+
+
 def cases():
-    for family in (order, full, ticks, over_groups, files):
+    for family in (order, full, ticks, over_groups, files, late_scenes):
         yield from family()

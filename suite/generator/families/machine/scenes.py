@@ -1,7 +1,7 @@
 """Scenes and applications: what stops, what stays, and what begins anew."""
 from ...family import Family
 from ...page import Page
-from ...words import BLUE, GREEN, RED, WHITE, YELLOW, Raw, act, held, ref, typed
+from ...words import BLUE, GREEN, RED, WHITE, YELLOW, Raw, act, file_named, held, ref, typed
 
 FAMILY = Family("scenes", "Transitions, applications, start-up and close-down", "Items: Enter, Exchange, End; Actions (TransitionTo, Launch, Quit)", "Actions 8, 9 and 12; attributes 1, 2, 6 and 7",
                 "ISO/IEC 13522-5, Application class: Launch, Quit; Scene class: TransitionTo; Group class: OnStartUp, OnCloseDown; Ingredient class: Shared, InitiallyActive")
@@ -181,6 +181,28 @@ def revived():
         yield travel.case("revived-" + what, "An object that is run again while its scene is left goes with it: it neither interacts nor is seen", "red 1 2 red 3 select red 4 red")
 
 
+def revived_by_the_application():
+    """Objects of the application that are worked again while they are left: Launch begins them anew, TransitionTo keeps them as they are."""
+    for way, leave in (("launched", act("Launch", ref("a", 0))), ("kept", act("TransitionTo", ref("t", 0)))):
+        travel = Travel()
+        app = travel.app
+        again = [act("Run", 10), act("SetInteractionStatus", 10, True), act("SetTimer", 0, 1, 1000), act("Run", 12), act("SendEvent", 0, 11, Raw("StreamEvent"), 1)]
+        app.link(11, "IsStopped", again, number=301, Shared=True)
+        app.link(11, "StreamEvent", travel.noted("event"), number=302, Shared=True)
+        app.link(0, "TimerFired", travel.noted("timer"), number=303, Shared=True)
+        app.link(12, "ContentAvailable", travel.noted("file"), number=304, Shared=True)
+        app.rectangle(11, 240, 32, 24, 32, WHITE, Shared=way == "launched")
+        app.field(10, 24, 32, 120, 16, "1", BackgroundColour=BLUE, InitiallyActive=False)
+        app.words(12, 24, 64, 120, 16, file_named("late"), InitiallyActive=False)
+        app.items = [item for item in app.items if "{:Link" in item] + [item for item in app.items if "{:Link" not in item]
+        for group in (travel.s, travel.t):
+            travel.log(group, 0, "UserInput", group.path + "-key")
+            travel.log(group, ref("a", 10), "InteractionCompleted", "done")
+        travel.s.link(0, "UserInput", [leave], 101)
+        for place, feed in enumerate(("green 2 tick:2000 select 3 file:late=words 4", "1 tick:2000 green 5 cancel 6 red 7")):
+            yield travel.case("revived-application-%s-%d" % (way, place + 1), "What the application's objects begin while they halt goes with a Launch, and goes on over a transition: interaction, timers, events that wait, a file that is awaited", feed)
+
+
 def launched_anew():
     """All that waits goes when the application is launched anew: events, timers, the interaction, texts that wait for files."""
     page = Page(log=False)
@@ -238,6 +260,18 @@ def applications():
             yield page.case("%s-%d" % (way, place + 1), "Launch leaves scene and application and begins the other, without a scene; Quit ends", feed)
 
 
+def ended():
+    """Links and visibles that are run again while the application is quit: the engine has ended all the same."""
+    page = Page(stays=True)
+    page.app.link(11, "IsStopped", [act("Run", 10), act("Activate", 302), act("Activate", 303), act("SendEvent", 0, 10, Raw("EngineEvent"), 2)], number=301, Shared=True)
+    page.app.rectangle(11, 72, 32, 24, 32, GREEN, Shared=True)
+    page.app.link(0, "EngineEvent", [act("SetPosition", 10, 24, 96)], 1, number=302, Shared=True)
+    page.app.link(10, "EngineEvent", [act("SetFillColour", 10, BLUE)], 2, number=303, Shared=True)
+    page.app.rectangle(10, 24, 32, 24, 32, RED, Shared=True)
+    page.on("red", act("Quit", ref("a", 0)))
+    yield page.case("quit-revived", "An engine that has ended does nothing any more, whatever runs and listens: its last picture stays", "red engine:1 red")
+
+
 def closing_application():
     page = Page(stays=True)
     page.app.variable(900, "")
@@ -260,5 +294,5 @@ def closing_application():
 
 
 def cases():
-    for family in (closing, kept, stack_over, again, only_one, started, waiting_events, interaction_over, revived, launched_anew, applications, closing_application):
+    for family in (closing, kept, stack_over, again, only_one, started, waiting_events, interaction_over, revived, revived_by_the_application, launched_anew, applications, ended, closing_application):
         yield from family()

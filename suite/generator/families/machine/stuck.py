@@ -38,7 +38,8 @@ def a_page(**fields):
 ACTIONS = {
     "running": ["Run", "Stop", "Preload", "Unload"],
     "links": ["Activate", "Deactivate"],
-    "highlight": [("SetHighlightStatus", True), ("SetInteractionStatus", True)],
+    "highlight": [("SetHighlightStatus", True)],
+    "interaction": [("SetInteractionStatus", True), ("SetInteractionStatus", False)],
     "art": [("SetFillColour", bytes(4)), ("SetLineColour", bytes(4)), ("SetLineWidth", 1)],
     "drawing": ["Clear", ("DrawLine", 0, 0, 24, 24), ("DrawRectangle", 0, 0, 24, 24)],
     "boxes": [("SetPosition", 24, 96), ("SetBoxSize", 12, 16)],
@@ -177,6 +178,16 @@ def kinds():
         yield page.case("kind-" + name, "A value or a variable of another kind than is needed (V3, V5): " + name, "red green yellow text blue", lenient=True)
 
 
+def truths():
+    """A truth value that is held by a variable of numbers: nothing is done, and nothing is undone."""
+    page = a_page()
+    page.log(0, "TimerFired", "fired")
+    page.on("red", act("SetHighlightStatus", 14, True), act("SetHighlightStatus", 14, held(21)), act("SetOverwriteMode", 13, True), act("SetOverwriteMode", 13, held(21)), act("SetEntryPoint", 13, 0),
+            act("SetTimer", 0, 1, 1000, held(21)), act("SetTimer", 0, 2, 2000), act("SetTimer", 0, 2, 3000, held(21)), act("SetInteractionStatus", 13, True), act("SetInteractionStatus", 13, held(21)))
+    page.ask(13, 14)
+    yield page.case("kind-truth", "A truth value that a variable of another kind holds (V3): the highlight, the mode, the interaction and the timers stay as they are", "red tick:1500 9 tick:1000 select text", lenient=True)
+
+
 def members():
     """Members of groups of objects that are absent or no visibles."""
     for kind in ("TokenGroup", "ListGroup"):
@@ -209,5 +220,5 @@ def through_variables():
 
 
 def cases():
-    for family in (of_classes, absent, kinds, members, through_variables):
+    for family in (of_classes, absent, kinds, truths, members, through_variables):
         yield from family()
