@@ -11,13 +11,13 @@ use crate::place::{Place, place_at};
 
 /// A place that is known: so many bytes stand before it.
 #[derive(Clone, Copy)]
-pub struct Known {
+pub(crate) struct Known {
     pub offset: usize,
     pub place: Place,
 }
 
 /// The beginning of a text.
-pub fn beginning(bytes: &[u8]) -> Known
+pub(crate) fn beginning(bytes: &[u8]) -> Known
     ensures { result.place ≡ place_at_lem bytes.now result.offset }
 {
     Known {
@@ -27,7 +27,7 @@ pub fn beginning(bytes: &[u8]) -> Known
 }
 
 /// The place behind so many bytes.
-pub fn known_behind(bytes: &[u8], known: Known, offset: usize) -> Known
+pub(crate) fn known_behind(bytes: &[u8], known: Known, offset: usize) -> Known
     requires { known.place ≡ place_at_lem bytes.now known.offset }
     ensures there { result.offset ≡ offset }
     ensures is { result.place ≡ place_at_lem bytes.now result.offset }

@@ -9,6 +9,5 @@ mod directory;
 mod place;
 mod table;
 
-pub use counting::{Known, beginning, known_behind};
 pub use directory::Directory;
 pub use place::{Place, place_at, put_place};
