@@ -1,3 +1,7 @@
 pub mod FileLemmas
-pub mod WaitLemmas
 pub mod AheadLemmas
+pub mod TableLemmas
+pub mod PlaceLemmas
+pub mod LinkLemmas
+pub mod AddLemmas
+pub mod WalkLemmas

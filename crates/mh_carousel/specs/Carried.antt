@@ -20,12 +20,6 @@ file_of e = record { name = e.0; content = e.1 }
 abbrev pub files_of : List (List ℕ × List ℕ) → List File
 files_of es = map file_of es
 
-abbrev pub wait_of : (ObjRef × List ℕ) → Wait
-wait_of e = record { object = e.0; name = e.1 }
-
-abbrev pub waits_of : List (ObjRef × List ℕ) → List Wait
-waits_of es = map wait_of es
-
 -- the objects that wait for the file of this name
 abbrev pub waiting_for : List ℕ → List Wait → List ObjRef
 waiting_for name ws = map (λ w. w.object) (filter (λ w. bytes_eq w.name name) ws)

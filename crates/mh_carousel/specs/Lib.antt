@@ -1,3 +1,4 @@
 pub mod Carried
 pub mod Ahead
 pub mod Arrival
+pub mod Waited

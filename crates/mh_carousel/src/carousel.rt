@@ -11,7 +11,8 @@ ghost use Rattle.mh_carousel.specs.Arrival.{arrival_refusal};
 ghost use Rattle.mh_carousel.specs.Carried.{waiting_for};
 
 use crate::refusal::{ArrivalError, RefusedArrival};
-use crate::{ahead, files, waits};
+use crate::waits::Waits;
+use crate::{ahead, files};
 use indexmap::IndexMap;
 use mh_base::{GroupName, ObjRef, Octets};
 use mh_events::Queue;
@@ -27,21 +28,20 @@ const MOST_OCTETS: usize = 65535;
 #[derive(Drop)]
 pub struct Carousel {
     files: IndexMap<GroupName, Octets>,
-    /// The file for which each object waits.
-    waits: IndexMap<ObjRef, GroupName>,
+    waits: Waits,
 }
 
 impl Model for Carousel {
     ghost use Rattle.indexmap.specs.IndexMap.{spare};
-    ghost use Rattle.mh_carousel.specs.Carried.{Carried, files_of, waits_of};
+    ghost use Rattle.mh_carousel.specs.Carried.{Carried, files_of};
 
     ghost Value = { Carried };
 
     ghost view = { λ c. record {
       files = files_of c.files.entries;
-      waits = waits_of c.waits.entries;
+      waits = c.waits.waits;
       file_room = spare c.files;
-      room = spare c.waits;
+      room = c.waits.room;
     } };
 }
 
@@ -53,7 +53,7 @@ impl Carousel {
     {
         Carousel {
             files: IndexMap::new(alloc),
-            waits: IndexMap::new(alloc),
+            waits: Waits::new(alloc),
         }
     }
 
@@ -139,7 +139,7 @@ impl Carousel {
     pub fn waiting(&self, alloc: Global, name: &GroupName) -> Result<Vec<ObjRef>, AllocError>
         ensures { IfOk result (λ objects. objects.items ≡ waiting_for name.now self.now.waits) }
     {
-        waits::waiting(alloc, &self.waits, name)
+        self.waits.waiting(alloc, name)
     }
 
     /// Makes room for one more object that waits. Where memory is refused nothing changes.
@@ -149,7 +149,7 @@ impl Carousel {
         ensures room { OnOk result (1 ≤ self.new.room) }
         ensures other_room { self.new.file_room ≡ self.old.file_room }
     {
-        self.waits.reserve(1)
+        self.waits.reserve()
     }
 
     /// Lets the object wait for this file, and for no other any more, where there is room. It takes
@@ -160,7 +160,7 @@ impl Carousel {
         ensures waits { self.new.waits ≡ awaited (Some wait.name) wait.object self.old.waits }
         ensures room { self.new.file_room ≡ self.old.file_room }
     {
-        waits::wait(&mut self.waits, wait);
+        self.waits.wait(wait);
     }
 
     /// Lets the object wait for the file of this name, and for no other any more. Where memory is
@@ -187,7 +187,7 @@ impl Carousel {
         ensures file_room { self.new.file_room ≡ self.old.file_room }
         ensures room { self.old.room ≤ self.new.room }
     {
-        waits::forget(&mut self.waits, object);
+        self.waits.forget(object);
     }
 
     /// Lets nobody wait for the file of this name any more.
@@ -197,7 +197,7 @@ impl Carousel {
         ensures file_room { self.new.file_room ≡ self.old.file_room }
         ensures room { self.old.room ≤ self.new.room }
     {
-        waits::arrived(&mut self.waits, name);
+        self.waits.arrived(name);
     }
 
     /// Lets the objects of the application alone wait on, as when a scene is left.
@@ -208,7 +208,7 @@ impl Carousel {
         ensures file_room { self.new.file_room ≡ self.old.file_room }
         ensures room { self.old.room ≤ self.new.room }
     {
-        waits::keep(&mut self.waits, application);
+        self.waits.keep(application);
     }
 
     /// Lets nobody wait any more.

@@ -10,7 +10,10 @@ mod ahead;
 pub mod carousel;
 mod files;
 pub mod refusal;
+mod slot;
+mod tables;
 mod waits;
+mod walking;
 
 pub use carousel::{Carousel, is_large};
 pub use refusal::{ArrivalError, RefusedArrival};

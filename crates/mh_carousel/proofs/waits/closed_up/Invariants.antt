@@ -1,0 +1,6 @@
+use Rattle.std.proofs.Common.{◌≡◌, take}
+use Rattle.mh_carousel.specs.Waited.{waits_from}
+use Rattle.mh_carousel.proofs.waits.closed_up.Given as goal
+
+abbrev pub invariant-loop-place : goal.invariant-loop-place
+invariant-loop-place l = l.closed.waits ≡ waits_from l.objects.entries l.names.entries 0 (take l.place l.slots)
