@@ -1,0 +1,5 @@
+pub mod Messages
+pub mod Short
+pub mod Github
+pub mod Json
+pub mod Formats
