@@ -18,13 +18,13 @@ use mh_verify::verify;
 use std::alloc::Global;
 
 /// A play: its script, whose commands end in `|`, the files of its service, and its report.
-pub struct Play {
-    pub script: &'static str,
-    pub files: &'static str,
+struct Play {
+    script: &'static str,
+    files: &'static str,
     report: &'static str,
 }
 
-pub static PLAYS: [Play; 3] = [
+static PLAYS: [Play; 3] = [
     Play {
         script: "run|tick 60000|run|show|",
         files: r#"a {:Application ("~/a" 0) :OnStartUp ( :TransitionTo (("~/t" 0)) ) }
@@ -141,7 +141,7 @@ fn post(engine: &mut Engine, input: Input) -> Option<()> {
 }
 
 /// Makes a step, once more where memory was refused.
-pub fn step(engine: &mut Engine) -> Option<Stepped> {
+fn step(engine: &mut Engine) -> Option<Stepped> {
     match engine.step() {
         Ok(stepped) => Some(stepped),
         Err(_) => engine.step().ok(),
@@ -159,7 +159,7 @@ fn run(engine: &mut Engine) -> Option<()> {
 }
 
 /// Does what a command of a script says.
-pub fn obey(alloc: Global, engine: &mut Engine, command: &str) -> Option<()> {
+fn obey(alloc: Global, engine: &mut Engine, command: &str) -> Option<()> {
     match command {
         "run" => run(engine),
         "show" | "" => Some(()),
@@ -198,14 +198,6 @@ pub fn told(alloc: Global, engine: &mut Engine) -> Option<Text> {
     }
 }
 
-/// What is told of the engine, asked for once more where memory was refused.
-pub fn told_again(alloc: Global, engine: &mut Engine) -> Option<Text> {
-    match told(alloc, engine) {
-        Some(found) => Some(found),
-        None => told(alloc, engine),
-    }
-}
-
 /// The rows of a picture that are not black, and how many steps were made.
 pub fn shown(alloc: Global, picture: &Picture, taken: u64) -> Option<Text> {
     let black = Picture::black(alloc).ok()?;
@@ -221,15 +213,6 @@ pub fn is_told(told: Option<Text>, wanted: &str) -> bool {
     }
 }
 
-/// Whether the engine shows the last frame of the report, after so many steps, without faults.
-pub fn is_reported(alloc: Global, engine: &mut Engine, wanted: &Play) -> bool {
-    let found = told_again(alloc, engine);
-    match wanted.report.split_once("frame 1\n") {
-        Some((_, frame)) => is_told(found, frame),
-        None => false,
-    }
-}
-
 /// What is played. Its owner below is generic, since a function that owns an engine by name is dear to
 /// prove.
 trait Played {
@@ -239,7 +222,17 @@ trait Played {
 
 impl Played for Engine {
     fn holds(&mut self, alloc: Global, wanted: &Play) -> bool {
-        obey_all(alloc, self, wanted.script).is_some() && is_reported(alloc, self, wanted)
+        if obey_all(alloc, self, wanted.script).is_none() {
+            return false;
+        }
+        let found = match told(alloc, self) {
+            Some(found) => Some(found),
+            None => told(alloc, self),
+        };
+        match wanted.report.split_once("frame 1\n") {
+            Some((_, frame)) => is_told(found, frame),
+            None => false,
+        }
     }
 }
 
