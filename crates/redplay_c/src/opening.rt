@@ -229,9 +229,13 @@ fn accepted_engine(alloc: Global, accepted: Accepted, day: u32) -> Result<Engine
 {
     match Engine::start(alloc, accepted, day) {
         Ok(engine) => Ok(engine),
-        Err(refused) => match refused.why {
-            StartError::NoMemory => Err(StartRefusal::NoMemory),
-            StartError::ProgramsDiffer => unreachable!(),
-        },
+        Err(refused) => {
+            let why = refused.why;
+            drop(refused);
+            match why {
+                StartError::NoMemory => Err(StartRefusal::NoMemory),
+                StartError::ProgramsDiffer => unreachable!(),
+            }
+        }
     }
 }

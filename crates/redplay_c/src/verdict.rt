@@ -1,6 +1,8 @@
 //! What is told of a service that is checked.
 ghost use Rattle.std.specs.Prelude.{◌≡◌, Ok, Some, IfOk, IsErrOf, [], false};
+ghost use Rattle.mh_model.specs.Service.{Service as ServiceValue};
 ghost use Rattle.mh_verdict.specs.Lines.{complaint};
+ghost use Rattle.mh_verify.specs.Order.{IsTold};
 ghost use Rattle.redplay_c.specs.Files.{chosen_service, have_paths, reading_number};
 ghost use Rattle.redplay_c.specs.Verdicts.{AreChecked, Checks};
 
@@ -13,7 +15,7 @@ use mh_service::Service;
 use mh_told::text::Text;
 use mh_told::unplayable::Unplayable;
 use mh_verdict::{accepted_text, complaint_text, refusal_text};
-use mh_verify::{RefusalKind, verify};
+use mh_verify::{Refusal, RefusalKind, verify};
 use std::alloc::{AllocError, Global};
 
 /// The lines on a service, and the number that is answered with them.
@@ -75,11 +77,27 @@ fn judge(alloc: Global, service: Service) -> Result<Verdict, AllocError>
     ensures { IfOk result (λ verdict. Checks (Ok service) verdict.text verdict.number) }
 {
     match verify(alloc, service, &[]) {
-        Ok(accepted) => told(accepted_text(alloc, &accepted.bounds()), GOOD),
-        Err(refusal) => match refusal.kind {
-            RefusalKind::NoMemory => Err(AllocError),
-            _ => told(refusal_text(alloc, &refusal), UNACCEPTED),
-        },
+        Ok(accepted) => {
+            let bounds = accepted.bounds();
+            drop(accepted);
+            told(accepted_text(alloc, &bounds), GOOD)
+        }
+        Err(refusal) => {
+            let verdict = refused(alloc, &refusal);
+            drop(refusal);
+            verdict
+        }
+    }
+}
+
+/// What is told of a refusal; nothing where that is for want of memory.
+fn refused(alloc: Global, refusal: &Refusal) -> Result<Verdict, AllocError>
+    ensures { (s : ServiceValue) → IsTold s [] refusal.now →
+        IfOk result (λ verdict. Checks (Ok s) verdict.text verdict.number) }
+{
+    match refusal.kind {
+        RefusalKind::NoMemory => Err(AllocError),
+        _ => told(refusal_text(alloc, refusal), UNACCEPTED),
     }
 }
 
