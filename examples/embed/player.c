@@ -62,7 +62,7 @@ static void gather(folder *all, const char *root, const char *below) {
     if (!open) fail("cannot read", path);
     for (struct dirent *entry; (entry = readdir(open));) {
         struct stat is;
-        if (entry->d_name[0] == '.') continue;
+        if (!strcmp(entry->d_name, ".") || !strcmp(entry->d_name, "..")) continue;
         snprintf(name, sizeof name - 1, "%s%s", below, entry->d_name);
         snprintf(path, sizeof path, "%s/%s", root, name);
         if (stat(path, &is)) fail("cannot read", path);
@@ -70,6 +70,16 @@ static void gather(folder *all, const char *root, const char *below) {
         else add_file(all, path, name);
     }
     closedir(open);
+}
+
+static int by_name(const void *one, const void *other) {
+    return strcmp((const char *)((const redplay_source *)one)->name, (const char *)((const redplay_source *)other)->name);
+}
+
+/* The files of the folder and of those in it, in the order of their paths: of two mistakes the first by path is told. */
+static void gather_all(folder *all, const char *root) {
+    gather(all, root, "");
+    if (all->count > 1) qsort(all->files, all->count, sizeof *all->files, by_name);
 }
 
 /* The file of the service that has this path. */
@@ -289,7 +299,7 @@ static int start(const choices *made, const folder *all, const uint8_t *late, si
 int main(int count, char **words) {
     const choices made = chosen(count, words);
     folder all = {NULL, 0, 0};
-    gather(&all, made.folder, "");
+    gather_all(&all, made.folder);
     if (!all.count) fail("no files in", made.folder);
     size_t late_length = 0;
     uint8_t *late = made.late ? read_whole(made.late, &late_length) : NULL;
