@@ -5,8 +5,8 @@
  * made when they are asked for, and a picture of 36 rows of 60 cells is there behind each call. Nothing here reads a file,
  * draws, or knows any time but the ticks that it is given. docs/EMBEDDING_C.md shows a whole receiver.
  *
- * Link libredplay_c.a, and liblibc_c.a of the Rattle kit behind it. What the archive does is proved against the clauses of
- * crates/redplay_c; this file repeats them in words, and nothing compares the two.
+ * Link libredplay.a, as packages have it; or libredplay_c.a, and liblibc_c.a of the Rattle kit behind it. What the archive does is
+ * proved against the clauses of crates/redplay_c; this file repeats them in words, and nothing compares the two.
  *
  * WHAT A CALLER OWES. No call can see any of this:
  *   1. A pointer with a length behind it is the start of so many bytes, or values, of which nothing else is written while the

@@ -1,14 +1,14 @@
 #!/usr/bin/env python3
 """Finds names in the documents that stand nowhere in the code any more: words with an underscore, between backquotes, that no source,
 definition, proof, edit or script has. Run it at the top of the repository; it prints each with its places, and ends with 1 if there is
-one. Names of the toolchain, and those that stand for any name, are listed below."""
+one. Names of the toolchain and of other tools, and those that stand for any name, are listed below."""
 
 import glob
 import os
 import re
 import sys
 
-FOREIGN = {"is_none_or", "liblibc_c", "libos_c", "sanitize_address", "x_one", "x_read", "x_written"}
+FOREIGN = {"find_package", "fish_complete_path", "is_none_or", "liblibc_c", "libos_c", "sanitize_address", "x_one", "x_read", "x_written"}
 CODE = ("crates/**/*.rt", "crates/**/*.antt", "crates/*/must-fail/*.edit", "crates.txt", "include/*.h", "bench/**/*.py", "bench/**/*.edit")
 DOCUMENTS = ("docs/*.md", "*.md", "examples/*.md")
 NAME = r"(?<![\w=~/.'\"-])[a-z][a-z0-9]*(?:_[a-z0-9]+)+(?![\w-])"

@@ -1,23 +1,25 @@
 -- Objects that are not there (V1, V4).
-use Rattle.std.specs.Prelude.{ℕ, ◌-◌, ◌==◌, Bool, true, false, nat_lt, if◌then◌else◌, List, [], ◌∷◌, ◌++◌, map, filter, codes, Option, Some, None}
+use Rattle.std.specs.Prelude.{ℕ, if◌then◌else◌, List, [], ◌++◌, codes, Option, Some, None}
 use Rattle.std.specs.Fmt.{decimal}
 use Rattle.std.specs.List.{find}
 use Rattle.mh_base.specs.declared.obj_ref.ObjRef.{ObjRef}
 use Rattle.mh_base.specs.declared.value.Kind.{Kind}
 use Rattle.mh_group.specs.declared.action_name.ActionName.{ActionName}
 use Rattle.mh_group.specs.declared.action_name.ActionName.TheVariants as action
-use Rattle.mh_group.specs.Table.{is_application, is_scene}
+use Rattle.mh_group.specs.Table.{is_scene}
 use Rattle.mh_group.specs.Words.{action_word}
 use Rattle.mh_misread.specs.Likeness.{is_like}
 use Rattle.mh_model.specs.declared.object.Fixed.{Fixed}
 use Rattle.mh_model.specs.Configuration.{is_group_of}
-use Rattle.mh_model.specs.Service.{Service, group_parts}
+use Rattle.mh_model.specs.Service.{Service}
 use Rattle.mh_model.specs.Variables.{variable_kind}
 use Rattle.mh_service.specs.Resolved.{parts_under}
 use Rattle.mh_cause.specs.declared.phrases.TheConstants as told
 use Rattle.mh_cause.specs.declared.role.Role.{Role}
 use Rattle.mh_cause.specs.declared.role.Role.TheVariants as role
 use Rattle.mh_cause.specs.Acts.{numbered}
+use Rattle.mh_cause.specs.Candidates.{candidates_told}
+use Rattle.mh_cause.specs.Elsewhere.{meant_names}
 use Rattle.mh_cause.specs.Naming.{named, numbered_words, parameter_words}
 use Rattle.mh_cause.specs.Refusing.{Refused}
 use Rattle.mh_cause.specs.Roles.{role_at}
@@ -91,14 +93,6 @@ absent_cause s r = place_words s r r.action ++ absence s r.action r.at (parts_un
 
 -- THE MEND
 
-unfoldable pub is_meant : Service → Option ActionName → List ℕ → Bool
-is_meant s (Some action.TransitionTo) g = is_group_of is_scene s g
-is_meant s (Some action.Launch) g = is_group_of is_application s g
-is_meant s a g = true
-
-abbrev pub meant_names : Service → Option ActionName → List (List ℕ)
-meant_names s a = filter (is_meant s a) (map (λ e. e.0) s.groups)
-
 abbrev pub or_name : Option (List ℕ) → Option (List ℕ) → Option (List ℕ)
 or_name (Some g) other = Some g
 or_name None other = other
@@ -117,50 +111,8 @@ name_told (Some g) = told.NEAREST_NAME.now ++ g
 unfoldable pub no_group_mend : Service → Option ActionName → ObjRef → List ℕ
 no_group_mend s a at = told.ADD_FILE.now ++ name_told (near_name at.group (meant_names s a))
 
-abbrev pub distance : ℕ → ℕ → ℕ
-distance n m = if nat_lt n m then m - n else n - m
-
--- the nearer number; 0 stands for none
-abbrev pub nearer : ℕ → ℕ → ℕ → ℕ
-nearer n best m =
-    if m == 0 then best
-    else (if best == 0 then m else (if nat_lt (distance n m) (distance n best) then m else best))
-
-abbrev pub nearest_from : ℕ → ℕ → List Fixed → ℕ
-nearest_from n best [] = best
-nearest_from n best (p ∷ ps) = nearest_from n (nearer n best p.key.number) ps
-
-unfoldable pub number_told : ℕ → List ℕ
-number_told n = if n == 0 then [] else told.NEAREST_NUMBER.now ++ decimal n
-
--- the first of these groups that has an object with the number
-
-abbrev pub is_there : Option Fixed → Bool
-is_there (Some p) = true
-is_there None = false
-
-abbrev pub has_number : Service → ℕ → List ℕ → Bool
-has_number s n g = is_there (numbered n (group_parts s g))
-
-abbrev pub name_with : Service → ℕ → List (List ℕ) → Option (List ℕ)
-name_with s n names = find (has_number s n) names
-
--- an application that has such an object, and how that is written
-
-unfoldable pub reference_told : ℕ → List ℕ → List ℕ
-reference_told n g = g ++ told.BEHIND_NAME.now ++ decimal n ++ codes ")`"
-
-unfoldable pub written_told : ℕ → List ℕ → List ℕ
-written_told n g = told.THE_APPLICATION.now ++ g ++ told.HAS_SUCH.now ++ reference_told n g
-
-unfoldable pub elsewhere : ℕ → Option (List ℕ) → List ℕ
-elsewhere n None = []
-elsewhere n (Some g) = written_told n g
-
-unfoldable pub no_number_mend : Service → ObjRef → List Fixed → List ℕ
-no_number_mend s at ps =
-    told.NAME_THERE.now ++ number_told (nearest_from at.number 0 ps)
-    ++ elsewhere at.number (name_with s at.number (meant_names s (Some action.Launch)))
+unfoldable pub no_number_mend : Service → Refused → List ℕ
+no_number_mend s r = told.NAME_THERE.now ++ candidates_told s r
 
 -- a variable that outlives a scene is one of the application
 unfoldable pub kept_mend : Option Kind → List ℕ
@@ -170,13 +122,13 @@ kept_mend (Some k) = told.KEPT_VARIABLE.now
 unfoldable pub not_shown_mend : ObjRef → Fixed → List ℕ
 not_shown_mend at p = told.MOVE_TO.now ++ at.group ++ kept_mend (variable_kind p.class)
 
-abbrev pub there_mend : Service → ObjRef → List Fixed → Option Fixed → List ℕ
-there_mend s at ps None = no_number_mend s at ps
-there_mend s at ps (Some p) = not_shown_mend at p
+abbrev pub there_mend : Service → Refused → Option Fixed → List ℕ
+there_mend s r None = no_number_mend s r
+there_mend s r (Some p) = not_shown_mend r.at p
 
-abbrev pub written_mend : Service → Option ActionName → ObjRef → Option (List Fixed) → List ℕ
-written_mend s a at None = no_group_mend s a at
-written_mend s a at (Some ps) = there_mend s at ps (numbered at.number ps)
+abbrev pub written_mend : Service → Refused → Option (List Fixed) → List ℕ
+written_mend s r None = no_group_mend s r.action r.at
+written_mend s r (Some ps) = there_mend s r (numbered r.at.number ps)
 
 unfoldable pub held_mend : ObjRef → List ℕ
 held_mend holder = codes "set " ++ named holder ++ told.THAT_IS_THERE.now
@@ -190,7 +142,7 @@ holder_mend holder None = list_mend holder
 holder_mend holder (Some a) = held_mend holder
 
 abbrev pub absent_mend_for : Service → Refused → Option ObjRef → List ℕ
-absent_mend_for s r None = written_mend s r.action r.at (parts_under r.at.group s.groups)
+absent_mend_for s r None = written_mend s r (parts_under r.at.group s.groups)
 absent_mend_for s r (Some holder) = holder_mend holder r.action
 
 abbrev pub absent_mend : Service → Refused → List ℕ

@@ -4,6 +4,7 @@ pub mod Passing
 pub mod Lists
 pub mod Naming
 pub mod Roles
+pub mod Elsewhere
 pub mod Absent
 pub mod Unfit
 pub mod Misfits
@@ -11,3 +12,4 @@ pub mod MisfitWords
 pub mod Calls
 pub mod Details
 pub mod Causes
+pub mod Candidates

@@ -17,6 +17,7 @@ use Rattle.mh_cause.specs.declared.passing.Passing.{Passing}
 use Rattle.mh_cause.specs.declared.passing.Passing.TheVariants as passing
 use Rattle.mh_cause.specs.declared.passing.Wanted.TheVariants as wanted
 use Rattle.mh_cause.specs.declared.phrases.TheConstants as told
+use Rattle.mh_cause.specs.Candidates.{candidates_told}
 use Rattle.mh_cause.specs.Lists.{classes_told, kind_told, kinds_told, operators_told, with_article}
 use Rattle.mh_cause.specs.Misfits.{misfit_of}
 use Rattle.mh_cause.specs.Naming.{named, parameter_words}
@@ -118,9 +119,20 @@ mend_of a (misfit.Given n c to k) = given_mend a to
 mend_of a (misfit.Operator n to x) = codes "write one of these numbers"
 mend_of a (misfit.OperatorHeld n) = codes "write its number"
 
-abbrev pub told_mend : Option ActionName → Option Misfit → List ℕ
-told_mend (Some a) (Some m) = mend_of a m
-told_mend a m = []
+-- another variable may have been meant
+abbrev pub names_variable : Misfit → Bool
+names_variable (misfit.Target c) = true
+names_variable (misfit.Value n p c) = true
+names_variable (misfit.Answer n k c) = true
+names_variable (misfit.Written n k c) = true
+names_variable m = false
+
+abbrev pub variable_told : Service → Refused → Misfit → List ℕ
+variable_told s r m = if names_variable m then candidates_told s r else []
+
+abbrev pub told_mend : Service → Refused → Option ActionName → Option Misfit → List ℕ
+told_mend s r (Some a) (Some m) = mend_of a m ++ variable_told s r m
+told_mend s r a m = []
 
 abbrev pub misfit_mend : Service → Refused → List ℕ
-misfit_mend s r = told_mend r.action (misfit_of s r)
+misfit_mend s r = told_mend s r r.action (misfit_of s r)

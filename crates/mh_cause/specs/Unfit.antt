@@ -9,6 +9,7 @@ use Rattle.mh_cause.specs.declared.passing.Wanted.TheVariants as wanted
 use Rattle.mh_cause.specs.declared.phrases.TheConstants as told
 use Rattle.mh_cause.specs.declared.role.Role.{Role}
 use Rattle.mh_cause.specs.declared.role.Role.TheVariants as role
+use Rattle.mh_cause.specs.Candidates.{candidates_told}
 use Rattle.mh_cause.specs.Lists.{actions_told, classes_told, with_article}
 use Rattle.mh_cause.specs.Naming.{class_at, named, numbered_words, parameter_words}
 use Rattle.mh_cause.specs.Refusing.{Refused}
@@ -68,8 +69,12 @@ unfit_cause s r = unfit_for s r (class_at s r.at)
 abbrev pub other_actions : Class → List ℕ
 other_actions c = with_article c ++ codes ": " ++ actions_told c
 
-unfoldable pub name_mend : Class → List ℕ
-name_mend c = told.OR_DONE_TO.now ++ other_actions c
+-- one that fits
+unfoldable pub other_mend : Service → Refused → List ℕ
+other_mend s r = told.NAME_ANOTHER.now ++ candidates_told s r
+
+unfoldable pub name_mend : Service → Refused → Class → List ℕ
+name_mend s r c = other_mend s r ++ told.OR_DONE_TO.now ++ other_actions c
 
 unfoldable pub set_mend : ObjRef → Class → List ℕ
 set_mend holder c = codes "set " ++ named holder ++ told.SET_ONLY.now ++ other_actions c
@@ -78,21 +83,21 @@ unfoldable pub fill_mend : ObjRef → List ℕ
 fill_mend holder = codes "let " ++ named holder ++ codes " hold these only"
 
 -- an object as a parameter, or as a member
-abbrev pub plain_mend : Option ObjRef → List ℕ
-plain_mend None = codes "name one of these"
-plain_mend (Some holder) = fill_mend holder
+abbrev pub plain_mend : Service → Refused → Option ObjRef → List ℕ
+plain_mend s r None = other_mend s r
+plain_mend s r (Some holder) = fill_mend holder
 
-abbrev pub target_mend : Class → Option ObjRef → List ℕ
-target_mend c None = name_mend c
-target_mend c (Some holder) = set_mend holder c
+abbrev pub target_mend : Service → Refused → Class → Option ObjRef → List ℕ
+target_mend s r c None = name_mend s r c
+target_mend s r c (Some holder) = set_mend holder c
 
-abbrev pub role_mend : Refused → Class → Role → List ℕ
-role_mend r c (role.Parameter n) = plain_mend r.holder
-role_mend r c place = target_mend c r.holder
+abbrev pub role_mend : Service → Refused → Class → Role → List ℕ
+role_mend s r c (role.Parameter n) = plain_mend s r r.holder
+role_mend s r c place = target_mend s r c r.holder
 
 abbrev pub mend_by : Service → Refused → Class → Option ActionName → List ℕ
-mend_by s r c None = plain_mend r.holder
-mend_by s r c (Some a) = role_mend r c (role_in s r)
+mend_by s r c None = plain_mend s r r.holder
+mend_by s r c (Some a) = role_mend s r c (role_in s r)
 
 abbrev pub unfit_mend_for : Service → Refused → Option Class → List ℕ
 unfit_mend_for s r None = []

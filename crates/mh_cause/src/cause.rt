@@ -57,8 +57,8 @@ pub fn put_mend(
 {
     match refused.number {
         1 | 4 => put_absent_mend(alloc, text, service, refused),
-        2 | 5 => put_unfit_mend(text, service, refused),
-        3 => put_misfit_mend(text, service, refused),
+        2 | 5 => put_unfit_mend(alloc, text, service, refused),
+        3 => put_misfit_mend(alloc, text, service, refused),
         7 => text.put(b"write the number"),
         9 => put_call_mend(text, service, refused),
         _ => Ok(()),

@@ -8,6 +8,7 @@
 mod absent;
 mod acts;
 mod calls;
+mod candidates;
 mod cause;
 pub mod detail;
 mod elsewhere;

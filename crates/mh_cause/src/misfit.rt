@@ -95,7 +95,7 @@ fn setting_of(service: &Service, class: Class, at: &ObjRef, act: &Act) -> Settin
     }
 }
 
-fn direct_class(service: &Service, target: &Target) -> Option<Class>
+pub(crate) fn direct_class(service: &Service, target: &Target) -> Option<Class>
     ensures { result ≡ direct_class service.now target.now }
 {
     match target {
@@ -113,7 +113,7 @@ fn reached_class(service: &Service, at: &ObjRef, target: &Target) -> Option<Clas
     }
 }
 
-fn target_misfit(class: Class, at: &ObjRef, target: &Target) -> Option<Misfit>
+pub(crate) fn target_misfit(class: Class, at: &ObjRef, target: &Target) -> Option<Misfit>
     ensures { result ≡ target_misfit class at.now target.now }
 {
     match target {

@@ -1,7 +1,8 @@
 //! How values and variables of another kind are mended.
 ghost use Rattle.std.specs.Prelude.{◌≡◌, ◌++◌, OnOk};
-ghost use Rattle.mh_cause.specs.MisfitWords.{answer_mend, digits_mend, given_mend, is_integer, mend_of, misfit_mend, through_mend, told_mend, value_mend};
+ghost use Rattle.mh_cause.specs.MisfitWords.{answer_mend, digits_mend, given_mend, is_integer, mend_of, misfit_mend, names_variable, through_mend, told_mend, value_mend, variable_told};
 
+use crate::candidates::put_candidates;
 use crate::lists::{put_classes, put_kinds};
 use crate::misfit::{Misfit, misfit_of};
 use crate::passing::{Passing, Wanted, passes};
@@ -12,7 +13,7 @@ use mh_group::{ActionName, Class};
 use mh_model::kinds::variable_kind;
 use mh_service::Service;
 use mh_told::text::Text;
-use std::alloc::AllocError;
+use std::alloc::{AllocError, Global};
 
 #[tactic(auto, unfolding(crate::specs::MisfitWords::through_mend))]
 fn put_through_mend(text: &mut Text, passing: Passing) -> Result<(), AllocError>
@@ -78,26 +79,62 @@ fn put_mend_of(text: &mut Text, action: ActionName, misfit: Misfit) -> Result<()
     }
 }
 
-fn put_told_mend(
+/// Whether another variable may have been meant.
+fn names_variable(misfit: Misfit) -> bool
+    ensures { result ≡ names_variable misfit }
+{
+    matches!(
+        misfit,
+        Misfit::Target(_)
+            | Misfit::Value(_, _, _)
+            | Misfit::Answer(_, _, _)
+            | Misfit::Written(_, _, _)
+    )
+}
+
+fn put_variable_told(
+    alloc: Global,
     text: &mut Text,
+    service: &Service,
+    refused: &Refused<'_>,
+    misfit: Misfit,
+) -> Result<(), AllocError>
+    ensures { OnOk result (text.new ≡ text.old ++ variable_told service.now refused.now misfit) }
+{
+    if names_variable(misfit) {
+        return put_candidates(alloc, text, service, refused);
+    }
+    Ok(())
+}
+
+fn put_told_mend(
+    alloc: Global,
+    text: &mut Text,
+    service: &Service,
+    refused: &Refused<'_>,
     action: Option<ActionName>,
     misfit: Option<Misfit>,
 ) -> Result<(), AllocError>
-    ensures { OnOk result (text.new ≡ text.old ++ told_mend action misfit) }
+    ensures { OnOk result (text.new ≡ text.old ++ told_mend service.now refused.now action misfit) }
 {
     match (action, misfit) {
-        (Some(action), Some(misfit)) => put_mend_of(text, action, misfit),
+        (Some(action), Some(misfit)) => {
+            put_mend_of(text, action, misfit)?;
+            put_variable_told(alloc, text, service, refused, misfit)
+        }
         _ => Ok(()),
     }
 }
 
 /// Puts what is written or named in its place.
 pub(crate) fn put_misfit_mend(
+    alloc: Global,
     text: &mut Text,
     service: &Service,
     refused: &Refused<'_>,
 ) -> Result<(), AllocError>
     ensures { OnOk result (text.new ≡ text.old ++ misfit_mend service.now refused.now) }
 {
-    put_told_mend(text, refused.action, misfit_of(service, refused))
+    let misfit = misfit_of(service, refused);
+    put_told_mend(alloc, text, service, refused, refused.action, misfit)
 }

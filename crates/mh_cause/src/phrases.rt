@@ -30,9 +30,15 @@ pub const NEAREST_NAME: &[u8] = b"; the nearest is ";
 
 pub const NEAREST_NUMBER: &[u8] = b"; the nearest number is ";
 
+pub const NEAREST_NUMBERS: &[u8] = b"; the nearest numbers are ";
+
+pub const GROUP_ITSELF: &[u8] = b"; the group itself has the number 0";
+
 pub const THE_APPLICATION: &[u8] = b"; the application ";
 
 pub const HAS_SUCH: &[u8] = b" has an object with that number, which is written `(\"~/";
+
+pub const ITSELF_IS: &[u8] = b" itself is written `(\"~/";
 
 pub const BEHIND_NAME: &[u8] = b"\" ";
 
@@ -49,7 +55,9 @@ pub const HOLD_PRESENT: &[u8] = b" hold only objects that are there while it is"
 
 pub const WHICH_MAY: &[u8] = b", which can be held by ";
 
-pub const OR_DONE_TO: &[u8] = b"name one of these, or write an action that is done to ";
+pub const NAME_ANOTHER: &[u8] = b"name one of these";
+
+pub const OR_DONE_TO: &[u8] = b"; or write an action that is done to ";
 
 pub const SET_ONLY: &[u8] = b" only to one of these, or write an action that is done to ";
 

@@ -1,15 +1,15 @@
 //! How an object is mended that is not there: what is there, and most like it.
-ghost use Rattle.std.specs.Prelude.{◌≡◌, ◌++◌, OnOk, IfOk, map};
-ghost use Rattle.std.specs.Option.{option_copied, option_map};
+ghost use Rattle.std.specs.Prelude.{◌≡◌, ◌++◌, OnOk};
+ghost use Rattle.std.specs.Option.{option_copied};
 ghost use Rattle.mh_service.specs.Resolved.{parts_under};
-ghost use Rattle.mh_cause.specs.Absent.{absent_mend, absent_mend_for, distance, held_mend, holder_mend, is_meant, kept_mend, list_mend, like_name, meant_names, name_told, near_name, nearer, nearest_from, no_group_mend, no_number_mend, not_shown_mend, number_told, there_mend, written_mend};
+ghost use Rattle.mh_cause.specs.Absent.{absent_mend, absent_mend_for, held_mend, holder_mend, kept_mend, list_mend, like_name, name_told, near_name, no_group_mend, no_number_mend, not_shown_mend, there_mend, written_mend};
 
 use crate::acts::part_numbered;
-use crate::elsewhere::{name_with, put_elsewhere};
+use crate::candidates::put_candidates;
+use crate::elsewhere::meant_names;
 use crate::naming::put_named;
 use crate::phrases::{
-    ADD_FILE, HOLD_PRESENT, KEPT_VARIABLE, MOVE_TO, NAME_THERE, NEAREST_NAME, NEAREST_NUMBER,
-    THAT_IS_THERE,
+    ADD_FILE, HOLD_PRESENT, KEPT_VARIABLE, MOVE_TO, NAME_THERE, NEAREST_NAME, THAT_IS_THERE,
 };
 use crate::refused::Refused;
 use mh_base::{GroupName, Kind, ObjRef};
@@ -20,35 +20,6 @@ use mh_model::{Fixed, FixedPart};
 use mh_service::Service;
 use mh_told::text::Text;
 use std::alloc::{AllocError, Global};
-
-/// Whether the action can lead to the group of this name.
-#[tactic(auto, unfolding(crate::specs::Absent::is_meant))]
-fn is_meant(service: &Service, action: Option<ActionName>, name: &GroupName) -> bool
-    ensures { result ≡ is_meant service.now action name.now }
-{
-    match action {
-        Some(ActionName::TransitionTo) => service.has_scene(name),
-        Some(ActionName::Launch) => service.has_application(name),
-        _ => true,
-    }
-}
-
-/// The names of the groups to which the action can lead.
-fn meant_names(
-    alloc: Global,
-    service: &Service,
-    action: Option<ActionName>,
-) -> Result<Vec<GroupName>, AllocError>
-    ensures { IfOk result (λ names. names.items ≡ meant_names service.now action) }
-{
-    let mut names = Vec::new(alloc);
-    for name in service.groups().keys() {
-        if is_meant(service, action, name) {
-            names.push(name.clone()?)?;
-        }
-    }
-    Ok(names)
-}
 
 /// The name that is most like the word.
 #[tactic(auto, unfolding(crate::specs::Absent::near_name))]
@@ -101,71 +72,17 @@ fn put_no_group_mend(
     put_name_told(text, near_name(at.group.as_bytes(), names.as_slice()))
 }
 
-fn distance(first: u32, second: u32) -> u32
-    ensures { result ≡ distance first second }
-{
-    if first < second {
-        second - first
-    } else {
-        first - second
-    }
-}
-
-/// The number that is nearer to the first; 0 stands for none.
-fn nearer(number: u32, best: u32, other: u32) -> u32
-    ensures { result ≡ nearer number best other }
-{
-    if other == 0 {
-        return best;
-    }
-    if best == 0 || distance(number, other) < distance(number, best) {
-        return other;
-    }
-    best
-}
-
-/// The number of an object that is nearest to this one.
-fn nearest_number(number: u32, parts: &[FixedPart]) -> u32
-    ensures { result ≡ nearest_from number 0 parts.now }
-{
-    let mut best = 0;
-    let mut left = parts;
-    while let [part, behind @ ..] = left {
-        best = nearer(number, best, part.get().key.number);
-        left = behind;
-    }
-    best
-}
-
-#[tactic(auto, unfolding(crate::specs::Absent::number_told))]
-fn put_number_told(text: &mut Text, number: u32) -> Result<(), AllocError>
-    ensures { OnOk result (text.new ≡ text.old ++ number_told number) }
-{
-    if number == 0 {
-        return Ok(());
-    }
-    text.put(NEAREST_NUMBER)?;
-    text.put_number(u64::from(number))
-}
-
 #[tactic(auto, unfolding(crate::specs::Absent::no_number_mend))]
 fn put_no_number_mend(
     alloc: Global,
     text: &mut Text,
     service: &Service,
-    at: &ObjRef,
-    parts: &[FixedPart],
+    refused: &Refused<'_>,
 ) -> Result<(), AllocError>
-    ensures { OnOk result (text.new ≡ text.old ++ no_number_mend service.now at.now parts.now) }
+    ensures { OnOk result (text.new ≡ text.old ++ no_number_mend service.now refused.now) }
 {
-    let names = meant_names(alloc, service, Some(ActionName::Launch))?;
     text.put(NAME_THERE)?;
-    put_number_told(text, nearest_number(at.number, parts))?;
-    put_elsewhere(
-        text,
-        at.number,
-        name_with(service, at.number, names.as_slice()),
-    )
+    put_candidates(alloc, text, service, refused)
 }
 
 #[tactic(auto, unfolding(crate::specs::Absent::not_shown_mend))]
@@ -191,15 +108,14 @@ fn put_there_mend(
     alloc: Global,
     text: &mut Text,
     service: &Service,
-    at: &ObjRef,
-    parts: &[FixedPart],
+    refused: &Refused<'_>,
     part: Option<&FixedPart>,
 ) -> Result<(), AllocError>
-    ensures { OnOk result (text.new ≡ text.old ++ there_mend service.now at.now parts.now (option_copied part.entry)) }
+    ensures { OnOk result (text.new ≡ text.old ++ there_mend service.now refused.now (option_copied part.entry)) }
 {
     match part {
-        None => put_no_number_mend(alloc, text, service, at, parts),
-        Some(part) => put_not_shown_mend(text, at, part.get()),
+        None => put_no_number_mend(alloc, text, service, refused),
+        Some(part) => put_not_shown_mend(text, refused.at, part.get()),
     }
 }
 
@@ -207,17 +123,16 @@ fn put_written_mend(
     alloc: Global,
     text: &mut Text,
     service: &Service,
-    action: Option<ActionName>,
-    at: &ObjRef,
+    refused: &Refused<'_>,
     parts: Option<&[FixedPart]>,
 ) -> Result<(), AllocError>
-    ensures { OnOk result (text.new ≡ text.old ++ written_mend service.now action at.now (option_copied parts.entry)) }
+    ensures { OnOk result (text.new ≡ text.old ++ written_mend service.now refused.now (option_copied parts.entry)) }
 {
     match parts {
-        None => put_no_group_mend(alloc, text, service, action, at),
+        None => put_no_group_mend(alloc, text, service, refused.action, refused.at),
         Some(parts) => {
-            let part = part_numbered(parts, at.number);
-            put_there_mend(alloc, text, service, at, parts, part)
+            let part = part_numbered(parts, refused.at.number);
+            put_there_mend(alloc, text, service, refused, part)
         }
     }
 }
@@ -266,7 +181,7 @@ pub(crate) fn put_absent_mend(
     match refused.holder {
         None => {
             let parts = service.group(&refused.at.group);
-            put_written_mend(alloc, text, service, refused.action, refused.at, parts)
+            put_written_mend(alloc, text, service, refused, parts)
         }
         Some(holder) => put_holder_mend(text, holder, refused.action),
     }

@@ -1,19 +1,20 @@
 //! Objects of a class for which an action has no rule: the classes that are wanted, and the one that is found.
 ghost use Rattle.std.specs.Prelude.{◌≡◌, ◌++◌, OnOk};
 ghost use Rattle.std.specs.Option.{option_copied};
-ghost use Rattle.mh_cause.specs.Unfit.{action_rule, class_clause, fill_mend, held_clause, member_or_item, members_rule, mend_by, name_mend, other_actions, parameter_rule, plain_mend, role_in, role_mend, rule, set_mend, target_mend, target_rule, unfit_cause, unfit_class, unfit_mend, written_at};
+ghost use Rattle.mh_cause.specs.Unfit.{action_rule, class_clause, fill_mend, held_clause, member_or_item, members_rule, mend_by, name_mend, other_actions, other_mend, parameter_rule, plain_mend, role_in, role_mend, rule, set_mend, target_mend, target_rule, unfit_cause, unfit_class, unfit_mend, written_at};
 
+use crate::candidates::put_candidates;
 use crate::lists::{put_actions, put_classes, put_with_article};
 use crate::naming::{class_at, put_named, put_numbered, put_parameter};
 use crate::passing::Wanted;
-use crate::phrases::{IS_DONE_TO, OR_DONE_TO, SET_ONLY, WHICH_MAY};
+use crate::phrases::{IS_DONE_TO, NAME_ANOTHER, OR_DONE_TO, SET_ONLY, WHICH_MAY};
 use crate::refused::Refused;
 use crate::role::{Role, role_at};
 use mh_base::ObjRef;
 use mh_group::{ActionName, Class};
 use mh_service::Service;
 use mh_told::text::Text;
-use std::alloc::AllocError;
+use std::alloc::{AllocError, Global};
 
 fn put_held_clause(text: &mut Text, holder: Option<&ObjRef>) -> Result<(), AllocError>
     ensures { OnOk result (text.new ≡ text.old ++ held_clause (option_copied holder.entry)) }
@@ -153,10 +154,31 @@ fn put_other_actions(text: &mut Text, class: Class) -> Result<(), AllocError>
     put_actions(text, class)
 }
 
-#[tactic(auto, unfolding(crate::specs::Unfit::name_mend))]
-fn put_name_mend(text: &mut Text, class: Class) -> Result<(), AllocError>
-    ensures { OnOk result (text.new ≡ text.old ++ name_mend class) }
+/// Puts that another object is named, and which may have been meant.
+#[tactic(auto, unfolding(crate::specs::Unfit::other_mend))]
+fn put_other_mend(
+    alloc: Global,
+    text: &mut Text,
+    service: &Service,
+    refused: &Refused<'_>,
+) -> Result<(), AllocError>
+    ensures { OnOk result (text.new ≡ text.old ++ other_mend service.now refused.now) }
 {
+    text.put(NAME_ANOTHER)?;
+    put_candidates(alloc, text, service, refused)
+}
+
+#[tactic(auto, unfolding(crate::specs::Unfit::name_mend))]
+fn put_name_mend(
+    alloc: Global,
+    text: &mut Text,
+    service: &Service,
+    refused: &Refused<'_>,
+    class: Class,
+) -> Result<(), AllocError>
+    ensures { OnOk result (text.new ≡ text.old ++ name_mend service.now refused.now class) }
+{
+    put_other_mend(alloc, text, service, refused)?;
     text.put(OR_DONE_TO)?;
     put_other_actions(text, class)
 }
@@ -180,39 +202,55 @@ fn put_fill_mend(text: &mut Text, holder: &ObjRef) -> Result<(), AllocError>
     text.put(b" hold these only")
 }
 
-fn put_plain_mend(text: &mut Text, holder: Option<&ObjRef>) -> Result<(), AllocError>
-    ensures { OnOk result (text.new ≡ text.old ++ plain_mend (option_copied holder.entry)) }
+fn put_plain_mend(
+    alloc: Global,
+    text: &mut Text,
+    service: &Service,
+    refused: &Refused<'_>,
+    holder: Option<&ObjRef>,
+) -> Result<(), AllocError>
+    ensures { OnOk result (text.new ≡ text.old ++ plain_mend service.now refused.now (option_copied holder.entry)) }
 {
     match holder {
-        None => text.put(b"name one of these"),
+        None => put_other_mend(alloc, text, service, refused),
         Some(holder) => put_fill_mend(text, holder),
     }
 }
 
-fn put_target_mend(text: &mut Text, class: Class, holder: Option<&ObjRef>) -> Result<(), AllocError>
-    ensures { OnOk result (text.new ≡ text.old ++ target_mend class (option_copied holder.entry)) }
+fn put_target_mend(
+    alloc: Global,
+    text: &mut Text,
+    service: &Service,
+    refused: &Refused<'_>,
+    class: Class,
+    holder: Option<&ObjRef>,
+) -> Result<(), AllocError>
+    ensures { OnOk result (text.new ≡ text.old ++ target_mend service.now refused.now class (option_copied holder.entry)) }
 {
     match holder {
-        None => put_name_mend(text, class),
+        None => put_name_mend(alloc, text, service, refused, class),
         Some(holder) => put_set_mend(text, holder, class),
     }
 }
 
 fn put_role_mend(
+    alloc: Global,
     text: &mut Text,
+    service: &Service,
     refused: &Refused<'_>,
     class: Class,
     role: Role,
 ) -> Result<(), AllocError>
-    ensures { OnOk result (text.new ≡ text.old ++ role_mend refused.now class role) }
+    ensures { OnOk result (text.new ≡ text.old ++ role_mend service.now refused.now class role) }
 {
     match role {
-        Role::Parameter(_) => put_plain_mend(text, refused.holder),
-        _ => put_target_mend(text, class, refused.holder),
+        Role::Parameter(_) => put_plain_mend(alloc, text, service, refused, refused.holder),
+        _ => put_target_mend(alloc, text, service, refused, class, refused.holder),
     }
 }
 
 fn put_mend_by(
+    alloc: Global,
     text: &mut Text,
     service: &Service,
     refused: &Refused<'_>,
@@ -222,13 +260,21 @@ fn put_mend_by(
     ensures { OnOk result (text.new ≡ text.old ++ mend_by service.now refused.now class action) }
 {
     match action {
-        None => put_plain_mend(text, refused.holder),
-        Some(_) => put_role_mend(text, refused, class, role_in(service, refused)),
+        None => put_plain_mend(alloc, text, service, refused, refused.holder),
+        Some(_) => put_role_mend(
+            alloc,
+            text,
+            service,
+            refused,
+            class,
+            role_in(service, refused),
+        ),
     }
 }
 
 /// Puts what is named in its place.
 pub(crate) fn put_unfit_mend(
+    alloc: Global,
     text: &mut Text,
     service: &Service,
     refused: &Refused<'_>,
@@ -237,6 +283,6 @@ pub(crate) fn put_unfit_mend(
 {
     match class_at(service, refused.at) {
         None => Ok(()),
-        Some(class) => put_mend_by(text, service, refused, class, refused.action),
+        Some(class) => put_mend_by(alloc, text, service, refused, class, refused.action),
     }
 }

@@ -1,7 +1,6 @@
 -- Looking down the display stack, visible by visible.
-use Rattle.std.specs.Prelude.{◌≡◌, ℕ, ◌+◌, ◌<◌, ◌≤◌, Bool, true, false, List, [], ◌∷◌, ◌++◌, length, map, reverse, take, Option, slice_index_or, refl}
-use Rattle.std.proofs.Common.{ap, ◌∙◌, sym, arith, subst}
-use Rattle.std.proofs.lemmas.List.{take_all, take_more, reverse-append}
+use Rattle.std.specs.Prelude.{◌≡◌, ℕ, ◌<◌, Bool, true, false, List, [], ◌∷◌, map, reverse, Option, refl}
+use Rattle.std.proofs.Common.{ap, ◌∙◌, sym, subst}
 use Rattle.mh_base.specs.declared.obj_ref.ObjRef.{ObjRef}
 use Rattle.mh_model.specs.declared.picture.cell.Cell.{Cell}
 use Rattle.mh_model.specs.declared.object.Object.{Object}
@@ -15,34 +14,23 @@ use Rattle.mh_display.specs.Surface.{Surface, IsClean, IsRight}
 use Rattle.mh_display.proofs.CellLemmas.{seen_below}
 
 -- all are left
-pub all_left : (os : List Object) (stack : List ObjRef) (n : ℕ) (s : Surface) → length stack ≤ n → IsDown os (reverse stack) (reverse (take n stack)) s s
-all_left os stack n s most = record {
-  each = λ c inside. ap (λ (rs : List ObjRef). seen (marked_at s c) (map (paint_at os c) (reverse rs))) (take_all n stack most);
-}
+pub all_left : (os : List Object) (rs : List ObjRef) (s : Surface) → IsDown os rs rs s s
+all_left os rs s = record { each = λ c inside. refl }
 
 -- the topmost of those that are left is painted
-pub next_down : (os : List Object) (rs stack : List ObjRef) (left n : ℕ) (top : ObjRef) (found : Option Object) (old mid new : Surface) → left ≤ length stack → left ≡ n + 1
-    → top ≡ slice_index_or stack n top → found ≡ object_at top os → IsDown os rs (reverse (take left stack)) old mid → IsPainted (λ c. painted c found) mid new
-    → IsDown os rs (reverse (take n stack)) old new
-next_down os rs stack left n top found old mid new inside is here there done one = record {
+pub next_down : (os : List Object) (rs left below : List ObjRef) (top : ObjRef) (found : Option Object) (old mid new : Surface) → left ≡ top ∷ below → found ≡ object_at top os
+    → IsDown os rs left old mid → IsPainted (λ c. painted c found) mid new → IsDown os rs below old new
+next_down os rs left below top found old mid new here there done one = record {
   each = λ c in_it.
-      seen_below (paint_at os c top) (marked_at mid c) (marked_at new c) (map (paint_at os c) (reverse (take n stack)))
+      seen_below (paint_at os c top) (marked_at mid c) (marked_at new c) (map (paint_at os c) below)
       (one.each c in_it ∙ ap (λ (o : Option Object). put (painted c o) (marked_at mid c)) there)
-      ∙ ap (λ (qs : List ObjRef). seen (marked_at mid c) (map (paint_at os c) qs)) (sym turned)
+      ∙ ap (λ (qs : List ObjRef). seen (marked_at mid c) (map (paint_at os c) qs)) (sym here)
       ∙ done.each c in_it;
 }
-  where
-    turned : reverse (take left stack) ≡ top ∷ reverse (take n stack)
-    turned =
-        ap (λ (k : ℕ). reverse (take k stack)) is
-        ∙ ap (λ (qs : List ObjRef). reverse qs) (take_more stack n top (omega (arith, inside, is)) ∙ ap (λ (r : ObjRef). take n stack ++ r ∷ []) (sym here))
-        ∙ reverse-append (take n stack) (top ∷ [])
 
 -- none is left
-pub none_left : (os : List Object) (rs stack : List ObjRef) (left : ℕ) (old new : Surface) → left ≤ 0 → IsDown os rs (reverse (take left stack)) old new → IsDown os rs [] old new
-none_left os rs stack left old new most done =
-    let none : left ≡ 0 = omega (arith, most) in
-    subst (λ (k : ℕ). IsDown os rs (reverse (take k stack)) old new) none done
+pub none_left : (os : List Object) (rs left : List ObjRef) (old new : Surface) → left ≡ [] → IsDown os rs left old new → IsDown os rs [] old new
+none_left os rs left old new none done = subst (λ (qs : List ObjRef). IsDown os rs qs old new) none done
 
 -- a cell that is right is what it is, whatever is below
 seen_right : (k : Marked) (ps : List Paint) → k.stale ≡ false → seen k ps ≡ k.cell

@@ -12,6 +12,5 @@ mod LetterLemmas
 mod RowBitLemmas
 mod RowLemmas
 mod SpoilLemmas
-mod StackLemmas
 mod StrokeLemmas
 mod WindowLemmas

@@ -2,7 +2,6 @@ pub mod Painting
 pub mod Panels
 pub mod Places
 pub mod Rows
-pub mod Shelf
 pub mod Strokes
 pub mod Surface
 pub mod Texts

@@ -2,7 +2,7 @@
 //!
 //! The visibles are painted from the top down, each into the cells alone of which something is still sought; so
 //! the walk ends where all cells are settled, and no cell is painted twice.
-ghost use Rattle.std.specs.Prelude.{◌≡◌, ◌<◌, ◌+◌, ◌*◌, [], reverse, true};
+ghost use Rattle.std.specs.Prelude.{◌≡◌, ◌<◌, ◌+◌, ◌*◌, [], true};
 ghost use Rattle.mh_model.specs.Picture.{picture};
 ghost use Rattle.mh_model.specs.State.{all};
 ghost use Rattle.mh_display.specs.Painting.{IsAll, IsBetween, IsComplete, IsDown, IsSet, marked_at, settled};
@@ -12,14 +12,14 @@ use crate::cells::{lowest, without};
 use crate::looks::paint_found;
 use crate::marked::settled;
 use crate::screen::Screen;
-use mh_base::ObjRef;
+use mh_stack::{Stack, Walk};
 use mh_store::Objects;
 
 impl Screen {
     /// Paints the stale cells, each by looking down the display stack. It takes no memory.
-    pub fn repaint(&mut self, objects: &Objects, stack: &[ObjRef])
-        requires { IsRight (all objects.now) stack.now self.old }
-        ensures right { self.new.planes ≡ picture (all objects.now) stack.now }
+    pub fn repaint(&mut self, objects: &Objects, stack: &Stack)
+        requires { IsRight (all objects.now) stack.now.places self.old }
+        ensures right { self.new.planes ≡ picture (all objects.now) stack.now.places }
         ensures clean { IsClean self.new.marks }
     {
         let _ = self.is_whole();
@@ -27,31 +27,39 @@ impl Screen {
             return;
         }
         self.renew();
-        paint_down(self, objects, stack);
+        paint_down(self, objects, stack.down());
         settle(self);
     }
 }
 
 /// Paints one visible below another, as long as a cell is stale.
-fn paint_down(screen: &mut Screen, objects: &Objects, stack: &[ObjRef])
-    ensures { IsDown (all objects.now) (reverse stack.now) [] screen.old screen.new }
+fn paint_down(screen: &mut Screen, objects: &Objects, stack: Walk<'_>)
+    ensures { IsDown (all objects.now) stack.entry [] screen.old screen.new }
 {
-    let mut left = stack.len();
-    while 0 < left {
-        if is_done_at(screen, left) {
+    let mut left = stack;
+    let mut turn = 1;
+    while let Some(at) = left.next() {
+        paint_found(screen, objects.boxed(at));
+        if is_done_at(screen, turn) {
             return;
         }
-        left -= 1;
-        paint_found(screen, objects.boxed(&stack[left]));
+        turn = next_turn(turn);
     }
 }
 
-/// Whether no cell is stale. That is tested once for every eight visibles, of which so many are left.
-fn is_done_at(screen: &mut Screen, left: usize) -> bool
+/// Whether no cell is stale. That is tested once for every eight visibles, by their turns.
+fn is_done_at(screen: &mut Screen, turn: u8) -> bool
     ensures same { screen.new ≡ screen.old }
     ensures clean { result ≡ true → IsClean screen.new.marks }
 {
-    left % 8 == 0 && screen.is_done()
+    turn == 0 && screen.is_done()
+}
+
+/// The turn behind this one, of eight.
+fn next_turn(turn: u8) -> u8
+    ensures { result < 8 }
+{
+    if turn < 7 { turn + 1 } else { 0 }
 }
 
 /// There is nothing below.

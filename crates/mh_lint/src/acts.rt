@@ -6,7 +6,6 @@ ghost use Rattle.std.specs.List.{list_any};
 ghost use Rattle.mh_model.specs.Late.{is_late_scene};
 ghost use Rattle.mh_lint.specs.Notes as spec;
 
-use crate::timers::Timers;
 use crate::uses::{Uses, is_timing};
 use mh_base::{GroupName, ObjRef, Value};
 use mh_group::ActionName;

@@ -15,7 +15,7 @@ use std::marker::Model;
 
 /// What the lines are told by. A contract sees the files.
 #[derive(Drop)]
-pub(crate) struct Grounds<'a> {
+pub struct Grounds<'a> {
     directory: Directory<'a>,
     /// The rules that are turned off, file by file.
     allowed: Vec<Allowed>,
@@ -36,10 +36,7 @@ impl<'a> Model for Grounds<'a> {
 
 impl<'a> Grounds<'a> {
     /// The grounds of these files.
-    pub(crate) fn of(
-        alloc: Global,
-        files: &'a [(GroupName, Vec<u8>)],
-    ) -> Result<Grounds<'a>, AllocError>
+    pub fn of(alloc: Global, files: &'a [(GroupName, Vec<u8>)]) -> Result<Grounds<'a>, AllocError>
         ensures { IfOk result (λ grounds. grounds ≡ files.now) }
     {
         let allowed = allowed_by_file(alloc, files)?;
@@ -48,14 +45,14 @@ impl<'a> Grounds<'a> {
     }
 
     /// The files.
-    pub(crate) fn files(&self) -> &'a [(GroupName, Vec<u8>)]
+    pub fn files(&self) -> &'a [(GroupName, Vec<u8>)]
         ensures { result.now ≡ self.now }
     {
         self.directory.files()
     }
 
     /// Where the objects and the actions stand.
-    pub(crate) fn directory(&self) -> &Directory<'a>
+    pub fn directory(&self) -> &Directory<'a>
         ensures { result.now ≡ self.now }
     {
         &self.directory

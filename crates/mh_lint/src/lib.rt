@@ -31,5 +31,10 @@ mod uses;
 
 pub use finding::Finding;
 pub use findings::{findings_never_happen, findings_of};
+pub use grounds::Grounds;
 pub use lint::{Asked, lint_text};
+pub use note::Note;
+pub use note_lines::is_allowed;
+pub use notes::notes_of;
 pub use rule::{Allowed, RULES, Rule};
+pub use telling::{object_of, put_object, put_words};

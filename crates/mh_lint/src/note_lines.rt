@@ -61,8 +61,8 @@ pub(crate) fn is_turned_off(alloc: Global, bytes: &[u8], rule: Rule) -> Result<b
     Ok(allows(words.as_slice(), bytes))
 }
 
-/// Whether a note is not told.
-fn is_allowed(allowed: Allowed, grounds: &Grounds<'_>, note: &Note) -> bool
+/// Whether a note is not told: its rule is turned off, for all files or by a comment in the file of its object.
+pub fn is_allowed(allowed: Allowed, grounds: &Grounds<'_>, note: &Note) -> bool
     ensures { result ≡ spec.is_allowed allowed grounds.now note.now }
 {
     allowed.has(note.rule) || grounds.allows(&note.at.group, note.rule)

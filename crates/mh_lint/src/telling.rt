@@ -55,11 +55,7 @@ fn put_class(text: &mut Text, part: Option<&Fixed>) -> Result<(), AllocError>
 
 /// Puts the class of the object and its number.
 #[tactic(auto, unfolding(crate::specs::Telling::object_words))]
-pub(crate) fn put_object(
-    text: &mut Text,
-    service: &Equipped<'_>,
-    at: &ObjRef,
-) -> Result<(), AllocError>
+pub fn put_object(text: &mut Text, service: &Equipped<'_>, at: &ObjRef) -> Result<(), AllocError>
     ensures { OnOk result (text.new ≡ text.old ++ spec.object_words service.now at.now) }
 {
     put_class(text, service.find(at))?;
@@ -202,7 +198,7 @@ fn put_deaf(
 }
 
 /// Puts what is said of a finding behind its object, where these configurations are reached.
-fn put_words(
+pub fn put_words(
     text: &mut Text,
     service: &Equipped<'_>,
     configs: &[Config],
@@ -220,7 +216,7 @@ fn put_words(
 }
 
 /// The object of which a finding is told.
-fn object_of(finding: &Finding) -> &ObjRef
+pub fn object_of(finding: &Finding) -> &ObjRef
     ensures { result.now ≡ spec.object_of finding.now }
 {
     match finding {

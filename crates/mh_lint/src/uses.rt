@@ -3,6 +3,7 @@
 //! Promise: what is gathered is what the definitions of the same names in `specs/Uses` say, and the looks at it answer what theirs do.
 
 pub(crate) mod gathering;
+pub(crate) mod objects;
 pub(crate) mod reading;
 
 ghost use Rattle.std.specs.Prelude.{◌≡◌};

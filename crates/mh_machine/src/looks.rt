@@ -4,7 +4,8 @@ ghost use Rattle.std.specs.Option.{option_copied};
 
 use crate::Machine;
 use crate::works::Works;
-use mh_base::{GroupName, ObjRef};
+use mh_base::GroupName;
+use mh_display::Walk;
 use mh_events::Queue;
 use mh_model::{Act, Interaction, Item, Moments, Transition};
 use mh_service::Service;
@@ -42,8 +43,8 @@ impl Machine {
     }
 
     /// The display stack, the bottom first.
-    pub fn stack(&self) -> &[ObjRef]
-        ensures { result.now ≡ self.now.stack }
+    pub fn stack(&self) -> Walk<'_>
+        ensures { result ≡ self.now.stack }
     {
         self.works.stage.stack()
     }

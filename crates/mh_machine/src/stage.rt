@@ -24,7 +24,7 @@ use crate::plan::Stacking;
 use crate::stage::marking::{spoil_at, spoil_each, spoil_placed};
 use mh_actions::ordering::Reorder;
 use mh_base::{GroupName, ObjRef, Octets, Value};
-use mh_display::{Screen, Stack};
+use mh_display::{Screen, Stack, Walk};
 use mh_group::Position;
 use mh_model::{Edit, Picture};
 use mh_store::{Group, Objects};
@@ -78,10 +78,10 @@ impl Stage {
     }
 
     /// What can be seen, the bottom first.
-    pub fn stack(&self) -> &[ObjRef]
-        ensures { result.now ≡ self.now.stack }
+    pub fn stack(&self) -> Walk<'_>
+        ensures { result ≡ self.now.stack }
     {
-        self.stack.as_slice()
+        self.stack.up()
     }
 
     /// Makes room for one more on the stack.
@@ -240,7 +240,7 @@ impl Stage {
         ensures stack { self.new.stack ≡ self.old.stack }
         ensures clean { IsClean self.new.marks }
     {
-        self.screen.repaint(&self.objects, self.stack.as_slice());
+        self.screen.repaint(&self.objects, &self.stack);
     }
 
     /// The picture. What is to be painted is painted now.

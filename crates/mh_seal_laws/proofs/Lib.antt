@@ -11,3 +11,4 @@ pub mod StubLemmas
 pub mod SealedLemmas
 pub mod JoinLemmas
 pub mod DigestLemmas
+pub mod ToldLemmas

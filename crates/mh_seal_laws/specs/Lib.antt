@@ -5,3 +5,4 @@ pub mod Bringing
 pub mod Sealed
 pub mod Digests
 pub mod Joined
+pub mod Told

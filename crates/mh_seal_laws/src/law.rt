@@ -4,6 +4,7 @@ ghost use Rattle.mh_seal_laws.specs.Bringing.{NeverBringsLate};
 ghost use Rattle.mh_seal_laws.specs.Sealed.{SealedPlays, SealedGoesWell};
 ghost use Rattle.mh_seal_laws.specs.Digests.{DigestsAgree, DigestsGoWell};
 ghost use Rattle.mh_seal_laws.specs.Joined.{OfSealIsStubbed};
+ghost use Rattle.mh_seal_laws.specs.Told.{EachHasSeal, ToldSealGoesWell};
 
 /// The law that a step looks at nothing of a service but its receiver's programs, the class of each group, the
 /// groups that are present and the one that the first item brings; nor do the fault of that item and the
@@ -38,4 +39,16 @@ pub fn digests_agree()
 /// stubs of which the other laws speak.
 pub fn of_seal_is_stubbed()
     ensures { OfSealIsStubbed }
+{}
+
+/// The law that a run goes well beside the seal that a head end prints of an accepted service (`mh_seal`), by the bounds
+/// that the seal states, unless one of the files that are met and the service's own of its name are spelled otherwise
+/// and have one digest.
+pub fn told_seal_goes_well()
+    ensures { ToldSealGoesWell }
+{}
+
+/// The law that each service has such a seal.
+pub fn each_has_seal()
+    ensures { EachHasSeal }
 {}

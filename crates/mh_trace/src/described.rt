@@ -5,9 +5,10 @@ ghost use Rattle.std.specs.Option.{option_copied};
 ghost use Rattle.mh_trace.specs.Described as spec;
 
 use crate::pieces::{put_count, put_octets, put_ref};
-use mh_base::{GroupName, ObjRef};
+use mh_base::GroupName;
 use mh_machine::Machine;
 use mh_model::{Interaction, Transition};
+use mh_stack::Walk;
 use mh_told::text::Text;
 use std::alloc::{AllocError, Global};
 
@@ -36,19 +37,7 @@ fn put_rest(
 {
     put_groups(text, machine.application(), machine.scene())?;
     put_going(text, machine.interaction(), machine.transition())?;
-    put_stack(
-        text,
-        machine.locks(),
-        waiting,
-        stack_if(stacks, machine.stack()),
-    )
-}
-
-/// The display stack, where it is looked at.
-fn stack_if(stacks: bool, stack: &[ObjRef]) -> &[ObjRef]
-    ensures { result.now ≡ spec.stack_if stacks stack.now }
-{
-    if stacks { stack } else { &[] }
+    put_stack(text, machine.locks(), waiting, stacks, machine.stack())
 }
 
 #[tactic(auto, unfolding(crate::specs::Described::going_part))]
@@ -69,14 +58,25 @@ fn put_stack(
     text: &mut Text,
     locks: u64,
     waiting: usize,
-    stack: &[ObjRef],
+    stacks: bool,
+    stack: Walk<'_>,
 ) -> Result<(), AllocError>
-    ensures { OnOk result (text.new ≡ text.old ++ spec.stack_part locks waiting stack.now) }
+    ensures { OnOk result (text.new ≡ text.old ++ spec.stack_part locks waiting (spec.stack_if stacks stack.entry)) }
 {
     put_count(text, locks)?;
     put_count(text, waiting as u64)?;
-    put_refs(text, stack)?;
+    put_refs_if(text, stacks, stack)?;
     text.put(b";")
+}
+
+/// The display stack, where it is looked at.
+fn put_refs_if(text: &mut Text, stacks: bool, stack: Walk<'_>) -> Result<(), AllocError>
+    ensures { OnOk result (text.new ≡ text.old ++ spec.refs_part (spec.stack_if stacks stack.entry)) }
+{
+    if stacks {
+        return put_refs(text, stack);
+    }
+    Ok(())
 }
 
 #[tactic(auto, unfolding(crate::specs::Described::groups_part))]
@@ -117,10 +117,11 @@ fn put_transition(text: &mut Text, transition: &Transition) -> Result<(), AllocE
     }
 }
 
-fn put_refs(text: &mut Text, refs: &[ObjRef]) -> Result<(), AllocError>
-    ensures { OnOk result (text.new ≡ text.old ++ spec.refs_part refs.now) }
+fn put_refs(text: &mut Text, refs: Walk<'_>) -> Result<(), AllocError>
+    ensures { OnOk result (text.new ≡ text.old ++ spec.refs_part refs.entry) }
 {
-    for at in refs {
+    let mut left = refs;
+    while let Some(at) = left.next() {
         put_ref(text, at)?;
     }
     Ok(())

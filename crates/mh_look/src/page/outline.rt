@@ -8,36 +8,46 @@ pub const HEAD: &[u8] = b"<!DOCTYPE html>
 <html lang=\"en\">
 <head>
 <meta charset=\"utf-8\">
-<title>A report of redplay</title>
+<meta name=\"viewport\" content=\"width=device-width, initial-scale=1\">
+<title>What redplay showed</title>
 <style>
-body { font-family: sans-serif; margin: 1em 2em; color: #222; background: #ddd; }
-section { display: grid; grid-template: auto 1fr / 720px 1fr; gap: 0 2em; margin-bottom: 2em; }
+:root { color-scheme: light dark; --fit: 1; --ink: #222; --paper: #ddd; --mark: #f0f; }
+@media (prefers-color-scheme: dark) { :root { --ink: #ddd; --paper: #222; } }
+body { font-family: sans-serif; margin: 1em; color: var(--ink); background: var(--paper); }
+#bar { display: flex; flex-wrap: wrap; gap: 0.5em 1em; align-items: center; }
+#bar[hidden] { display: none; }
+#bar button { min-width: 2.5em; min-height: 2em; }
+section { display: grid; gap: 0 2em; margin-bottom: 2em; }
+section { grid-template: auto 1fr / calc(720px * var(--fit)) 1fr; }
 h2 { grid-column: 1; grid-row: 1; font-size: 1em; margin: 0.5em 0; }
 pre { grid-column: 2; grid-row: 1 / 3; margin: 0.5em 0; }
 pre { white-space: pre-wrap; overflow-wrap: anywhere; }
 pre:only-child { grid-column: 1; }
 .screen { grid-column: 1; grid-row: 2; width: 720px; height: 576px; }
-.screen { overflow: hidden; background: #000; }
+.screen { overflow: hidden; background: #000; position: relative; }
+.screen { transform: scale(var(--fit)); transform-origin: 0 0; }
+.screen { margin: 0 calc(720px * (var(--fit) - 1)) calc(576px * (var(--fit) - 1)) 0; }
 .screen div { height: 16px; width: 800px; white-space: pre; }
 .screen div { font: 16px/16px monospace; letter-spacing: calc(12px - 1ch); }
 .screen span { display: inline-block; height: 16px; vertical-align: top; }
-.screen { position: relative; }
 .screen svg { position: absolute; left: 0; top: 0; display: none; }
 .marked .screen svg { display: block; }
 .stepped section { display: none; }
 .stepped section.now { display: grid; }
-.stepped.all { display: flex; flex-wrap: wrap; gap: 1em; }
+.stepped.all { display: flex; flex-wrap: wrap; gap: 1em; --fit: 0.25; }
 .stepped.all section { display: block; cursor: pointer; margin: 0; }
 .stepped.all section.now h2 { text-decoration: underline; }
 .stepped.all pre, .stepped.all section:last-child { display: none; }
-.all .screen { transform: scale(0.25); transform-origin: 0 0; margin: 0 -540px -432px 0; }
+@media (max-width: 1000px) {
+section, .stepped section.now { display: flow-root; }
+}
 </style>
 </head>
 <body>
 <p id=\"bar\" hidden>
-<button id=\"back\">&#8592;</button>
-<input id=\"slider\" type=\"range\" min=\"0\" value=\"0\" aria-label=\"step\">
-<button id=\"on\">&#8594;</button>
+<button id=\"back\" aria-label=\"the frame before\">&#8592;</button>
+<input id=\"slider\" type=\"range\" min=\"0\" value=\"0\" aria-label=\"frame\">
+<button id=\"on\" aria-label=\"the next frame\">&#8594;</button>
 <output id=\"where\"></output>
 <label><input id=\"marks\" type=\"checkbox\"> mark what changed</label>
 <label><input id=\"all\" type=\"checkbox\"> all frames, small</label>
@@ -58,12 +68,35 @@ const main = document.querySelector('main');
 const slider = by('slider');
 const last = steps.length - 1;
 let at = 0;
+// how many thousandths of a second the lines of the script let pass before each step
+let clock = 0;
+const moments = steps.map(section => {
+  for (const tick of section.querySelector('pre').textContent.matchAll(/^> tick ([0-9]+)$/gm)) clock += Number(tick[1]);
+  return clock;
+});
+function moment(thousandths) {
+  const minutes = Math.floor(thousandths / 60000);
+  return minutes + ':' + (thousandths % 60000 / 1000).toFixed(3).padStart(6, '0');
+}
+function label(step) {
+  const words = step < last ? 'frame ' + (step + 1) + ' of ' + last : 'the end';
+  return clock ? words + ', at ' + moment(moments[step]) : words;
+}
 function show(step) {
   at = Math.min(Math.max(step, 0), last);
   steps.forEach((section, place) => section.classList.toggle('now', place === at));
   slider.value = at;
-  by('where').value = at < last ? 'frame ' + (at + 1) + ' of ' + last : 'the end';
+  slider.setAttribute('aria-valuetext', label(at));
+  by('where').value = label(at);
+  by('back').disabled = at === 0;
+  by('on').disabled = at === last;
+  document.title = label(at) + ' - what redplay showed';
   history.replaceState(null, '', at < last ? '#' + (at + 1) : '#end');
+}
+// a screen is as wide as the window at most
+function fit() {
+  const most = document.documentElement.clientWidth - 32;
+  document.documentElement.style.setProperty('--fit', Math.min(1, most / 720));
 }
 // a frame is asked for by its number, behind # in the address
 function asked() {
@@ -83,7 +116,7 @@ function outline(screen) {
     if (changed && !is(y, x + 1)) path += 'M' + (12 * x + 12) + ' ' + 16 * y + 'v16';
   }));
   screen.insertAdjacentHTML('beforeend', '<svg width=\"720\" height=\"576\"><path d=\"' + path
-    + '\" fill=\"none\" stroke=\"#f0f\" stroke-width=\"2\"/></svg>');
+    + '\" fill=\"none\" stroke=\"var(--mark)\" stroke-width=\"2\"/></svg>');
 }
 document.querySelectorAll('.screen').forEach(outline);
 slider.max = last;
@@ -99,12 +132,15 @@ steps.forEach((section, place) => section.addEventListener('click', () => {
   show(place);
 }));
 document.addEventListener('keydown', event => {
-  const way = { ArrowLeft: -1, ArrowRight: 1 }[event.key];
-  if (way && event.target !== slider) { show(at + way); event.preventDefault(); }
+  const to = { ArrowLeft: at - 1, ArrowRight: at + 1, Home: 0, End: last }[event.key];
+  const isOther = event.altKey || event.ctrlKey || event.metaKey;
+  if (to !== undefined && !isOther && event.target !== slider) { show(to); event.preventDefault(); }
 });
 window.addEventListener('hashchange', () => show(asked()));
+window.addEventListener('resize', fit);
 main.classList.add('stepped');
 by('bar').hidden = false;
+fit();
 show(asked());
 </script>
 </body>

@@ -3,46 +3,38 @@
 //! A slice of Rust is aligned and never null, a `&mut` has no second user, and a handle lives in one `Engine`, which is
 //! neither `Send` nor `Sync`: so what `redplay.h` asks of its callers holds here by the types.
 
-mod raw;
+#![no_std]
 
+extern crate alloc;
+
+pub mod key;
+mod raw;
+mod refused;
+
+use alloc::{vec, vec::Vec};
+use core::marker::PhantomData;
 pub use raw::{Cell, Limits, Totals};
 use raw::{Handle, Source};
-use std::marker::PhantomData;
+pub use refused::Refused;
 
+/// The picture: rows and columns of cells, each 12 by 16 units of the screen's 720 by 576.
 pub const ROWS: usize = 36;
+/// See `ROWS`.
 pub const COLUMNS: usize = 60;
 
 /// A file: its path in the folder of the service, and its bytes.
 pub type File<'a> = (&'a [u8], &'a [u8]);
 
-/// Why a call does nothing: the number that `redplay.h` names.
-#[derive(Clone, Copy, Debug, PartialEq, Eq)]
-pub struct Refused(pub u32);
-
-impl Refused {
-    pub const QUEUE_FULL: Refused = Refused(51);
-    pub const ENDED: Refused = Refused(52);
-    pub const NO_MEMORY: Refused = Refused(100);
-    pub const UNACCEPTED: Refused = Refused(102);
-    pub const OUT_OF_RANGE: Refused = Refused(107);
-}
-
-impl std::fmt::Display for Refused {
-    fn fmt(&self, to: &mut std::fmt::Formatter<'_>) -> std::fmt::Result {
-        write!(to, "refused {}", self.0)
-    }
-}
-
-impl std::error::Error for Refused {}
-
 /// What comes from outside.
 #[derive(Clone, Copy, Debug)]
 pub enum Input<'a> {
-    /// A key, by its number: `redplay.h` has them.
+    /// A key, by its number: `key` has them.
     Key(u32),
     /// So many milliseconds passed, 1 to 60,000.
     Tick(u32),
+    /// A stream event with this tag.
     Stream(i32),
+    /// An event of the engine with this number.
     Event(i32),
     /// A content file is there, in the place of an older one of its name.
     File(File<'a>),
@@ -53,8 +45,11 @@ pub enum Input<'a> {
 /// What is left to do.
 #[derive(Clone, Copy, Debug, PartialEq, Eq)]
 pub enum Rest {
+    /// There are steps to make.
     More,
+    /// Nothing, until an input is posted.
     Idle,
+    /// The application has quit: nothing changes any more.
     Ended,
 }
 
@@ -148,7 +143,7 @@ impl Engine {
     pub fn start(service: Service<'_>, day: u32, lenient: bool) -> Result<Engine, Refused> {
         let (s, start, late) = (sources(service.files), service.start, service.late);
         let handle = Handle {
-            at: std::ptr::null_mut(),
+            at: core::ptr::null_mut(),
         };
         let mut engine = Engine {
             handle,
@@ -197,6 +192,7 @@ impl Engine {
         told(unsafe { raw::redplay_advance(&mut self.handle, most) })
     }
 
+    /// What is left to do.
     pub fn rest(&mut self) -> Rest {
         // SAFETY: as above.
         match unsafe { raw::redplay_rest(&mut self.handle) } {
@@ -206,6 +202,7 @@ impl Engine {
         }
     }
 
+    /// How many steps were taken, how many may be, and how many faults were met.
     pub fn totals(&mut self) -> Totals {
         let mut totals = Totals::default();
         // SAFETY: as above.

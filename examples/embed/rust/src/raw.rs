@@ -1,7 +1,7 @@
 //! `include/redplay.h`, call by call. Nothing compares the two but the sizes and places below.
 
-use std::ffi::c_void;
-use std::mem::{offset_of, size_of};
+use core::ffi::c_void;
+use core::mem::{offset_of, size_of};
 
 #[repr(C)]
 pub struct Handle {

@@ -1,6 +1,6 @@
 use Rattle.std.proofs.Common.{◌≡◌, ◌∙◌, sym, subst, ℕ, true, arith, rules, drop}
 use Rattle.std.specs.Str.{bytes_eq}
-use Rattle.mh_display.proofs.LaneLemmas.{told_behind, told_here, tail_same, other_tail}
+use Rattle.mh_display.proofs.LaneLemmas.{told_behind, tail_same}
 use Rattle.mh_display.proofs.rows.same_numbers.Goals as goal
 
 pub loop-at-preserved : goal.loop-at-preserved

@@ -8,4 +8,4 @@ pub invariant_of-self-in-Fall : goal.invariant_of-self-in-Fall
 invariant_of-self-in-Fall c =
     right_fallen (all c.self-in-Fall.inside.objects) c.self-in-Fall.inside.stack.places c.fall.new.self.places c.in-Fall.at
     (object_at c.in-Fall.at (all c.self-in-Fall.inside.objects)) c.self-in-Fall.inside.screen c.spoil_at-in-Fall.new.screen
-    c.fall.ensures refl c.spoil_at-in-Fall.ensures.same c.spoil_at-in-Fall.ensures.spoilt c.self-in-Fall.invariant
+    c.fall.ensures.places refl c.spoil_at-in-Fall.ensures.same c.spoil_at-in-Fall.ensures.spoilt c.self-in-Fall.invariant

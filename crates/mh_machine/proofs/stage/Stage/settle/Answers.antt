@@ -1,12 +1,6 @@
-use Rattle.std.specs.Prelude.{List}
-use Rattle.std.proofs.Common.{ap, ◌∙◌}
-use Rattle.mh_base.specs.declared.obj_ref.ObjRef.{ObjRef}
-use Rattle.mh_model.specs.Picture.{picture}
 use Rattle.mh_model.specs.State.{all}
 use Rattle.mh_machine.proofs.StageLemmas.{right_painted}
 use Rattle.mh_machine.proofs.stage.Stage.settle.Goals as goal
 
 pub invariant_of-self : goal.invariant_of-self
-invariant_of-self c =
-    right_painted (all c.self.inside.objects) c.self.inside.stack.places c.repaint.new.self
-    (c.repaint.ensures.right ∙ ap (λ (x : List ObjRef). picture (all c.self.inside.objects) x) c.as_slice.ensures)
+invariant_of-self c = right_painted (all c.self.inside.objects) c.self.inside.stack.places c.repaint.new.self c.repaint.ensures.right

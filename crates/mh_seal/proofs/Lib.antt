@@ -1,0 +1,10 @@
+pub mod TruthLemmas
+pub mod DigestLemmas
+pub mod LineLemmas
+pub mod ValueLemmas
+pub mod PartLemmas
+pub mod GroupLemmas
+pub mod BreakLemmas
+pub mod EndingLemmas
+pub mod SectionLemmas
+pub mod SealLemmas
