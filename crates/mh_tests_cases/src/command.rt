@@ -1,4 +1,4 @@
-//! The words of a call: a program, a subcommand and options, each of which the programs know.
+//! The words of a call behind its program: a subcommand and options, each of which `redplay` and `redtry` know.
 
 /// The day on which a play begins if no other is told.
 const DAY: u32 = 60_000;
@@ -6,7 +6,6 @@ const DAY: u32 = 60_000;
 /// A call, word by word.
 #[derive(Clone, Copy)]
 pub struct Command<'a> {
-    pub program: &'a str,
     pub name: &'a str,
     pub start: &'a str,
     pub mjd: u32,
@@ -22,10 +21,8 @@ pub struct Command<'a> {
 impl<'a> Command<'a> {
     /// The call that these words say, if they say one.
     pub fn read(text: &'a str) -> Option<Command<'a>> {
-        let (program, rest) = text.split_once(' ')?;
-        let (name, options) = rest.split_once(' ').unwrap_or((rest, ""));
+        let (name, options) = text.split_once(' ').unwrap_or((text, ""));
         let mut command = Command {
-            program,
             name,
             start: "a",
             mjd: DAY,

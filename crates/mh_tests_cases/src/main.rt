@@ -1,7 +1,8 @@
-//! The program of tests of `redplay` and `redtry`: it plays the files of cases that lie where it runs.
+//! The program of tests of `redplay`, `redtry` and `redlook`: it plays the files of cases that lie where it runs.
 #![tactic(auto)]
 
 mod command;
+mod looks;
 mod plays;
 mod tries;
 
@@ -17,15 +18,16 @@ fn main(rt: HostRuntime) -> ExitCode {
     ExitCode::from(play_all::<Programs, _>(&rt).unwrap_or(FAILED))
 }
 
-/// The two programs.
+/// The three programs.
 struct Programs;
 
 impl Player for Programs {
     fn answer(alloc: Global, case: &Case, call: &Call) -> Option<Answer> {
-        let command = Command::read(call.text.as_str())?;
-        match command.program {
-            "redplay" => plays::answer(alloc, &case.material, &command),
-            "redtry" => tries::answer(alloc, &case.material, &command),
+        let (program, words) = call.text.split_once(' ')?;
+        match program {
+            "redplay" => plays::answer(alloc, &case.material, &Command::read(words)?),
+            "redtry" => tries::answer(alloc, &case.material, &Command::read(words)?),
+            "redlook" => looks::answer(alloc, &case.material, call),
             _ => None,
         }
     }

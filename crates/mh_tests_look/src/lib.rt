@@ -1,6 +1,6 @@
 //! Tests of what is made of reports, and of places in files, through public calls.
 //!
-//! What `redlook why` and `redlook lint` write is told by cases in files (`mh_tests_cases_look`).
+//! What `redlook why` and `redlook lint` write is told by cases in files (`mh_tests_cases`).
 #![tactic(auto)]
 
 #[cfg(test)]

@@ -1,35 +1,22 @@
-//! The program of tests of `redlook why` and `redlook lint`: it plays the files of cases that lie where it runs.
-#![tactic(auto)]
-
-use mh_case_files::{Answer, Call, Case, File, Material, Player, play_all};
+//! What `redlook why` and `redlook lint` write.
+use crate::plays::copied;
+use mh_case_files::{Answer, Call, File, Material};
 use mh_folder::Folder;
 use mh_look::{Explain, Failure, Lint, Read, Task, answer_of, line_of};
 use mh_told::text::Text;
 use mh_why::lint_of;
 use std::alloc::{AllocError, Global};
-use std::process::ExitCode;
-
-/// The exit status where memory or writing failed.
-const FAILED: u8 = 4;
 
 /// The exit status of `lint` where something is found.
 const FOUND: u8 = 1;
 
-fn main(rt: HostRuntime) -> ExitCode {
-    ExitCode::from(play_all::<Looks, _>(&rt).unwrap_or(FAILED))
-}
-
-/// The program, as far as it explains a service.
-struct Looks;
-
-impl Player for Looks {
-    fn answer(alloc: Global, case: &Case, call: &Call) -> Option<Answer> {
-        let words = words_of(alloc, &case.material, call).ok()?;
-        match line_of(alloc, words.as_slice()).ok()? {
-            Task::Why(asked) => explained(alloc, &case.material, &asked),
-            Task::Lint(wanted) => linted(alloc, &case.material, &wanted),
-            _ => None,
-        }
+/// What a call of `redlook` writes, and its exit status.
+pub fn answer(alloc: Global, material: &Material, call: &Call) -> Option<Answer> {
+    let words = words_of(alloc, material, call).ok()?;
+    match line_of(alloc, words.as_slice()).ok()? {
+        Task::Why(asked) => explained(alloc, material, &asked),
+        Task::Lint(wanted) => linted(alloc, material, &wanted),
+        _ => None,
     }
 }
 
@@ -55,14 +42,6 @@ fn words_of<'a>(
         }
     }
     Ok(words)
-}
-
-/// A copy of the bytes that an option names; none at all where memory is lacking.
-fn copied(alloc: Global, bytes: &Option<Vec<u8>>) -> Option<Option<Vec<u8>>> {
-    match bytes {
-        Some(bytes) => Some(Some(Vec::from_slice(alloc, bytes.as_slice()).ok()?)),
-        None => Some(None),
-    }
 }
 
 fn read_of(alloc: Global, material: &Material) -> Option<Read> {
