@@ -240,6 +240,10 @@ of_parts all fs u gs [] = []
 of_parts all fs u gs (p ∷ items) =
     of_group fs gs p items ++ flat_map (of_object all fs u gs (runs_items gs p)) (p ∷ items)
 
--- of all groups, in their order
+-- of all groups, in their order, by what is done to their objects
+unfoldable pub notes_with : Bool → List Source → Uses → Service → List Note
+notes_with all fs u v = flat_map (λ g. of_parts all fs u v.late g.1) v.groups
+
+-- the same by what the service itself does
 abbrev pub notes : Bool → List Source → Service → List Note
-notes all fs v = flat_map (λ g. of_parts all fs (uses v) v.late g.1) v.groups
+notes all fs v = notes_with all fs (uses v) v

@@ -159,6 +159,25 @@ fn push_parts(
     push_objects(alloc, notes, all, files, uses, late, runs_items, parts)
 }
 
+/// What is noted of all groups, in their order, by what is done to their objects.
+#[tactic(auto, unfolding(crate::specs::Notes::notes_with))]
+fn notes_with(
+    alloc: Global,
+    service: &Equipped<'_>,
+    files: &[(GroupName, Vec<u8>)],
+    all: bool,
+    uses: &Uses,
+) -> Result<Vec<Note>, AllocError>
+    ensures { IfOk result (λ notes. notes.items ≡ spec.notes_with all files.now uses.now service.now) }
+{
+    let mut notes = Vec::new(alloc);
+    let late = service.late();
+    for parts in service.groups().values() {
+        push_parts(alloc, &mut notes, all, files, uses, late, parts.as_slice())?;
+    }
+    Ok(notes)
+}
+
 /// What is noted of all groups, in their order; what is to come, too, if all is asked for.
 pub fn notes_of(
     alloc: Global,
@@ -168,11 +187,6 @@ pub fn notes_of(
 ) -> Result<Vec<Note>, AllocError>
     ensures { IfOk result (λ notes. notes.items ≡ spec.notes all files.now service.now) }
 {
-    let mut notes = Vec::new(alloc);
     let uses = uses_of(alloc, service)?;
-    let late = service.late();
-    for parts in service.groups().values() {
-        push_parts(alloc, &mut notes, all, files, &uses, late, parts.as_slice())?;
-    }
-    Ok(notes)
+    notes_with(alloc, service, files, all, &uses)
 }

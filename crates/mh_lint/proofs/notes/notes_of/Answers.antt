@@ -1,15 +1,11 @@
-use Rattle.std.proofs.Common.{◌++◌, ap, ◌∙◌}
-use Rattle.std.specs.List.{flat_map}
-use Rattle.mh_lint.specs.Notes.{of_parts}
-use Rattle.mh_lint.specs.Uses.{uses}
-use Rattle.mh_lint.proofs.FindingLemmas.{groups_joined}
+use Rattle.std.proofs.Common.{◌∙◌}
+use Rattle.std.proofs.lemmas.Result.{IfOk-weaker}
+use Rattle.mh_lint.specs.Notes.{notes_with}
 use Rattle.mh_lint.proofs.notes.notes_of.Goals as goal
 
-pub loop-parts-init : goal.loop-parts-init
-loop-parts-init c =
+pub returns : goal.returns
+returns c =
     let all = c.args.all in
     let files = c.args.files.now in
-    let u = uses c.args.service.now in
-    let part = of_parts all files u c.late-late.result.now in
-    let joined = ap (flat_map part) (c.into_iter-parts-iterator.ensures.into_iter_gives ∙ c.values-parts-items.ensures.rest) ∙ groups_joined part c.groups.result.now.entries ∙ (λ i. flat_map (λ g. of_parts all files u (c.late-late.ensures i) g.1) (c.groups.ensures.entries i)) in
-    (λ i. c.new-notes.ensures.items i ++ joined i)
+    let v = c.args.service.now in
+    IfOk-weaker c.notes_with.result _ _ (λ notes same. same ∙ (λ i. notes_with all files (c.in_ok-uses.ensures i) v)) c.notes_with.ensures
