@@ -4,7 +4,7 @@
     python3 bench/kept/minutes.py FILE --table  prints what FILE has, the dearest crate first
 
 Start it before `rt ci`, with a file that is not there yet. Only checks that `rt ci` runs in the checkout GATE, or in the copy
-that some kits make of it, are counted; of a crate that was checked several times the last check counts, its tests added. A check counts with the processes that it has waited for.
+that some kits make of it, are counted; of a crate that was checked several times the last check counts, its tests and what two compilers make of a program added. A check counts with the processes that it has waited for.
 It reads /proc alone, so it may stand beside any run.
 """
 import json
@@ -32,6 +32,8 @@ def check_in(process, gate):
         resident = int(statm.read().split()[1])
     name = words[words.index(b"--crate-name") + 1].decode()
     kind = "tests" if b"--test" in words else "proof"
+    if b"--crate-checked" in words:
+        kind = "by-" + words[words.index(b"--backend") + 1].decode()
     ticks = sum(int(field) for field in fields[11:15])
     return f"{name} {kind} {fields[19]} {process}", ticks / TICKS / 60, resident * PAGE / 1e9
 
@@ -56,7 +58,8 @@ def keep(path, seen):
 
 
 def rows_of(seen):
-    """Returns the minutes and the gigabytes of each crate, by the last check of its proofs and the last of its tests."""
+    """Returns the minutes and the gigabytes of each crate, by the last check of its proofs, the last of its tests, and the last
+    time that each compiler built it."""
     last = {}
     for key, (minutes, gigabytes) in seen.items():
         name, kind, began, _ = key.split()

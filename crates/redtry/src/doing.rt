@@ -158,15 +158,38 @@ fn lived<R: Runtime + AllocGlobal>(
     owned(rt, Live::new(rt.alloc(), engine), record, reads)
 }
 
+/// What is played at the terminal. A function that is generic in it owns a play at the price of one word: with the play
+/// itself, every part of its machine stands in the proof.
+trait Playable {
+    /// Plays it, and writes the script that plays the same, if a file is named for it.
+    fn play<R: Runtime + AllocGlobal>(
+        &mut self,
+        rt: &R,
+        record: Option<&str>,
+        reads: u32,
+    ) -> Result<Exit, Failure>;
+}
+
+impl Playable for Live {
+    fn play<R: Runtime + AllocGlobal>(
+        &mut self,
+        rt: &R,
+        record: Option<&str>,
+        reads: u32,
+    ) -> Result<Exit, Failure> {
+        played(rt, self, record, reads)
+    }
+}
+
 /// Plays what it owns, so that no other function has to.
-fn owned<R: Runtime + AllocGlobal>(
+fn owned<R: Runtime + AllocGlobal, P: Playable + Drop>(
     rt: &R,
-    live: Live,
+    play: P,
     record: Option<&str>,
     reads: u32,
 ) -> Result<Exit, Failure> {
-    let mut live = live;
-    played(rt, &mut live, record, reads)
+    let mut play = play;
+    play.play(rt, record, reads)
 }
 
 /// Plays at the terminal, and writes the script that plays the same, if a file is named for it.
