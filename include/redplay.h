@@ -49,12 +49,12 @@
  * see that they do by redplay_version() == REDPLAY_VERSION. REDPLAY_ENGINE_VERSION is the release of redplay, which may play a
  * service otherwise or accept another one where its second number is another (CHANGELOG.md).
  *
- * NAMES. All that is declared here begins with redplay or REDPLAY, and so will all that is to come. The archive gives the linker
- * other names besides, all with a prefix of the toolchain.
+ * NAMES. All that is declared here begins with redplay or REDPLAY, and so will all that is to come. Besides these the archive gives
+ * the linker rattle_alloc, rattle_realloc and rattle_dealloc, which are the toolchain's.
  *
- * PLATFORMS. x86-64 with SSE4.2 (x86-64-v2), Linux, addresses of 64 bits. Of the C library it wants malloc, realloc, free and
- * what copies and compares memory. A port needs the crate compiled for the platform (the toolchain also has WebAssembly with 64
- * bits, docs/EMBEDDING_C.md) and these functions; files, clock and display are the program's own everywhere.
+ * PLATFORMS. Linux on x86-64, of processors that have SSE4.2 (x86-64-v2). Of the C library it wants malloc, realloc and free, and
+ * memcpy and its like. A port needs the crate compiled for the other platform, whose addresses have 64 bits, and these functions;
+ * files, clock and display are the program's own everywhere.
  */
 #ifndef REDPLAY_H
 #define REDPLAY_H
