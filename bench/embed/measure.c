@@ -1,6 +1,7 @@
 /* How deep the stack goes in each call, and how much memory is held, while a player plays: it is linked with the player and --wrap for
-   malloc, realloc, free and the calls below. Each call is made on a stack of its own, which was filled before. The figures go to standard
-   error; the status is 9 where the stack is deeper than docs/EMBEDDING_C.md says. */
+   malloc, realloc, free and the calls below. Each call is made on a stack of its own, which was filled before. To standard error go, in
+   bytes, how deep the stack went at the start and in a turn, and how much memory was held behind the start and at most; the status is 9
+   where the stack is deeper than docs/EMBEDDING_C.md says. */
 #define _GNU_SOURCE
 #include "../../include/redplay.h"
 #include <malloc.h>
@@ -166,7 +167,6 @@ uint32_t __wrap_redplay_cells(const redplay *session, size_t row, redplay_cell *
 }
 
 __attribute__((destructor)) static void tell(void) {
-    fprintf(stderr, "stack: %zu at the start, %zu in a turn; memory: %zu behind the start, %zu at most; bytes\n", deepest_start,
-            deepest_turn, started_held, most_held);
+    fprintf(stderr, "measured %zu %zu %zu %zu\n", deepest_start, deepest_turn, started_held, most_held);
     if (deepest_start > DEEPEST_START || deepest_turn > DEEPEST_TURN) _exit(9);
 }
