@@ -22,7 +22,7 @@ static uint32_t next_key(void) {
     return keys_left-- % 2 ? REDPLAY_KEY_RED : 17;
 }
 
-static void draw_row(unsigned row, const redplay_cell *cells) { drawn += row < REDPLAY_ROWS && cells[0].scalar == 32; }
+static void draw_row(unsigned row, const redplay_cell *cells) { drawn += row < REDPLAY_ROWS && cells[0].scalar >= 32; }
 
 /* Whether there is none to start any more. */
 static bool start_service(redplay *session) {
