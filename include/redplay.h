@@ -9,28 +9,52 @@
  * proved against the clauses of crates/redplay_c; this file repeats them in words, and nothing compares the two.
  *
  * WHAT A CALLER OWES. No call can see any of this:
- *   1. A pointer with a length behind it is the start of so many bytes, or values, of which nothing else is written while the
- *      call lasts. It is aligned and never null: where the length is 0, pass any address that is aligned and not null.
+ *   1. A pointer with a length behind it is aligned, and the start of so many bytes, or values, of which nothing else is written
+ *      while the call lasts. Where the length is 0 it may be null: (NULL, 0) is an empty piece everywhere, in a file of an array
+ *      too.
  *   2. A pointer without a length is aligned, never null, and points to one value of its type that was filled in.
  *   3. What a call writes does not overlap anything else that it is passed, and was filled in before, the room for a text too.
  *   4. A `bool` is 0 or 1.
  *   5. A handle begins as REDPLAY_NONE and is written by these calls alone. It may be moved, but there is never a second
- *      copy of it that is used. It stays on the thread that started it.
- *   6. A handle is in one call at a time, and no call is made from a signal handler, nor from the forked child of a process
- *      with threads.
+ *      copy of it that is used.
+ *   6. A handle is in one call at a time, also where the call takes it as `const`; and no call is made from a signal handler, nor
+ *      from the forked child of a process with threads.
  *   7. malloc, realloc and free come from one allocator, which aligns a block to each power of two up to 16 that divides its
  *      size.
  *
- * WHAT EACH CALL ANSWERS. 0, or a number that says why not. Where it is not 0 nothing has changed, in the session or behind a
- * pointer, unless the call says otherwise here. Numbers below 100 are those that `redplay` tells: 1 to 37 of files that cannot be
- * read, 40 to 58 of the engine; docs/PROFILE.md has them all. What is named below is what a program may want to know apart.
+ * THREADS. Sessions share nothing: two of them may be in calls on two threads at once. A session may go to another thread between
+ * two calls, if a lock, a join or a queue of the program orders the one call before the other. The library starts no thread, takes
+ * no lock, and keeps nothing outside of sessions.
+ *
+ * WHAT EACH CALL ANSWERS. 0, or a number that says why not, of which redplay_why() has the text. Where it is not 0 nothing has
+ * changed, in the session or behind a pointer, unless the call says otherwise here. Numbers below 100 are those that `redplay`
+ * tells: 1 to 37 of files that cannot be read, 40 to 58 of the engine; docs/PROFILE.md has them all. What is named below is what a
+ * program may want to know apart. `const` stands where a call leaves the session as it was.
  *
  * TEXTS. A text is written to room that the caller lends, as much of it as there is place for, and its whole length is told, as
  * snprintf does: where that is more than there was room for, lend more and ask again. No zero byte is put behind it. It is UTF-8
  * where the names of files are.
  *
  * MEMORY. "Takes no memory" means that the call never asks for any. Every other call may answer REDPLAY_NO_MEMORY, has then
- * kept nothing, and may be made again.
+ * kept nothing, and may be made again. What a session holds, and how deep the stack goes, docs/EMBEDDING_C.md has in figures.
+ *
+ * LIMITS. 1,024 content files at once (41), of 65,535 octets each (40); 256 inputs that wait (51); 2^32 milliseconds of ticks,
+ * which are 49.7 days (53), behind which a session is freed and another one started. The file of a scene that comes late has to be
+ * handed in at the start, too: the verifier wants it.
+ *
+ * WHAT MAY BE COUNTED ON FROM ONE VERSION TO THE NEXT. REDPLAY_VERSION is the number of this form of the calls, and is another one
+ * where a program has to be changed, or has only to be compiled anew: where a call goes, takes something else or means something
+ * else, where a struct has other fields or a name another value. Under one number there may come more calls, names, keys and
+ * numbers that are answered; so take a number that you do not know as a refusal. Archive and header belong together: a program may
+ * see that they do by redplay_version() == REDPLAY_VERSION. REDPLAY_ENGINE_VERSION is the release of redplay, which may play a
+ * service otherwise or accept another one where its second number is another (CHANGELOG.md).
+ *
+ * NAMES. All that is declared here begins with redplay or REDPLAY, and so will all that is to come. Besides these the archive gives
+ * the linker rattle_alloc, rattle_realloc and rattle_dealloc, which are the toolchain's.
+ *
+ * PLATFORMS. Linux on x86-64, of processors that have SSE4.2 (x86-64-v2). Of the C library it wants malloc, realloc and free, and
+ * memcpy and its like. A port needs the crate compiled for the other platform, whose addresses have 64 bits, and these functions;
+ * files, clock and display are the program's own everywhere.
  */
 #ifndef REDPLAY_H
 #define REDPLAY_H
@@ -46,6 +70,10 @@ extern "C" {
 /* The form of these calls, which redplay_version() answers for the archive that is linked. */
 #define REDPLAY_VERSION 1
 
+/* The version of the engine, 0.2.0, which redplay_engine_version() answers: 10,000 times the first number, 100 times the second,
+   and the third. */
+#define REDPLAY_ENGINE_VERSION 200
+
 /* The picture. A cell is 12 units wide and 16 high, of the 720 by 576 units of the standard's screen. */
 enum { REDPLAY_ROWS = 36, REDPLAY_COLUMNS = 60, REDPLAY_CELLS = 2160 };
 
@@ -57,7 +85,7 @@ enum {
     REDPLAY_TOO_MANY_FILES = 41,  /* with the names that wait, there would be more than 1,024 content files */
     REDPLAY_QUEUE_FULL = 51,      /* 256 inputs wait: make steps, and post again */
     REDPLAY_HAS_ENDED = 52,       /* the application has quit: nothing changes any more */
-    REDPLAY_CLOCK_FULL = 53,      /* with the ticks that wait, the present would be past 4,294,967,295 milliseconds */
+    REDPLAY_CLOCK_FULL = 53,      /* with the ticks that wait, the present would be past 4,294,967,295 milliseconds: start anew */
     REDPLAY_TICK_RANGE = 54,      /* a tick is not of 1 to 60,000 milliseconds */
     REDPLAY_NOT_LATE = 57,        /* no file of this scene is awaited: it was not named as late, or it was posted already */
     REDPLAY_SCENE_DIFFERS = 58,   /* the scene is another one than that of the service */
@@ -68,7 +96,7 @@ enum {
     REDPLAY_NO_KEY = 104,         /* no key has the number */
     REDPLAY_NO_PATH = 105,        /* the name of a file is no path */
     REDPLAY_IN_USE = 106,         /* the handle has a session already: free it first */
-    REDPLAY_OUT_OF_RANGE = 107    /* there is no such row, fault or day */
+    REDPLAY_OUT_OF_RANGE = 107    /* there is no such row, fault, day or number */
 };
 
 /* What redplay_rest() answers. */
@@ -114,8 +142,17 @@ typedef struct redplay_cell {
     uint32_t scalar, fore, back;
 } redplay_cell;
 
+/* ---- The library ---------------------------------------------------------------------------------------------------------- */
+
 /* Answers REDPLAY_VERSION of the archive. Takes no memory. */
 uint32_t redplay_version(void);
+
+/* Answers REDPLAY_ENGINE_VERSION of the archive. Takes no memory. */
+uint32_t redplay_engine_version(void);
+
+/* Writes what a number means that a call answers, in words of English without a point behind them, 0 too; REDPLAY_OUT_OF_RANGE
+   where none answers it. 128 bytes are enough. Takes no memory. */
+uint32_t redplay_why(uint32_t number, uint8_t *text, size_t text_length, size_t *length);
 
 /* ---- A service ----------------------------------------------------------------------------------------------------------
 
@@ -144,7 +181,7 @@ uint32_t redplay_start(redplay *handle, const redplay_source *files, size_t file
                        size_t start_length, const uint8_t *late, size_t late_length, uint32_t day, bool lenient);
 
 /* Writes the bounds of the service that is played. Takes no memory. */
-uint32_t redplay_bounds(redplay *handle, redplay_limits *limits);
+uint32_t redplay_bounds(const redplay *handle, redplay_limits *limits);
 
 /* Ends the session and gives all its memory back; the handle has none behind it. Takes no memory. */
 uint32_t redplay_free(redplay *handle);
@@ -181,15 +218,15 @@ uint32_t redplay_advance(redplay *handle, uint32_t most);
 
 /* Answers what is left to do: REDPLAY_MORE, REDPLAY_IDLE (post something), REDPLAY_ENDED; or REDPLAY_NO_SESSION. Takes no
    memory. */
-uint32_t redplay_rest(redplay *handle);
+uint32_t redplay_rest(const redplay *handle);
 
 /* Writes the counts. Takes no memory. */
-uint32_t redplay_counts(redplay *handle, redplay_totals *totals);
+uint32_t redplay_counts(const redplay *handle, redplay_totals *totals);
 
 /* Writes the line that `redplay play` prints of a fault, with its line feed: what is wrong (`absent`, `class`, `kind`), the
    action, and the reference that is wrong. The first fault is 0, the last one redplay_counts()'s `faults` less 1;
    REDPLAY_OUT_OF_RANGE where there are fewer. A service that the verifier accepted has none. */
-uint32_t redplay_fault(redplay *handle, size_t at, uint8_t *text, size_t text_length, size_t *length);
+uint32_t redplay_fault(const redplay *handle, size_t at, uint8_t *text, size_t text_length, size_t *length);
 
 /* Writes which rows differ from the picture of the last call, a bit a row, the top row the lowest; the picture that is shown
    now is what the next call compares with. Takes no memory. */
@@ -197,7 +234,7 @@ uint32_t redplay_changed(redplay *handle, uint64_t *rows);
 
 /* Copies cells from the beginning of this row on, 0 the top row, as many as there are places for; 60 a row.
    REDPLAY_OUT_OF_RANGE where the picture has fewer. Takes no memory. */
-uint32_t redplay_cells(redplay *handle, size_t row, redplay_cell *cells, size_t cells_length);
+uint32_t redplay_cells(const redplay *handle, size_t row, redplay_cell *cells, size_t cells_length);
 
 #ifdef __cplusplus
 }

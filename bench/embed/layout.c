@@ -60,6 +60,46 @@ static void without_session(redplay *none) {
 
 static const uint8_t *const start = (const uint8_t *)"a";
 
+/* The numbers that calls answer, and no others, have texts, none of them longer than the header says. */
+static void texts(void) {
+    static const uint32_t gaps[][2] = {{8, 9}, {15, 19}, {25, 29}, {36, 36}, {38, 39}, {42, 50}, {55, 56}, {59, 99}, {103, 103}, {108, 999}};
+    uint8_t text[128] = {0};
+    size_t length = 0;
+    for (uint32_t number = 0, gap = 0; number < 1000; number++) {
+        while (number > gaps[gap][1]) gap++;
+        bool is_answered = number < gaps[gap][0];
+        is("why", redplay_why(number, text, sizeof text, &length), is_answered ? REDPLAY_GOOD : REDPLAY_OUT_OF_RANGE);
+        is("a text that fits", length > 0 && length <= sizeof text, 1);
+    }
+    is("why", redplay_why(REDPLAY_QUEUE_FULL, text, 10, &length), REDPLAY_GOOD);
+    reads("a part of a text", text, 10, length, "256 inputs wait: make steps, and post again");
+    length = 7;
+    is("why", redplay_why(8, text, sizeof text, &length), REDPLAY_OUT_OF_RANGE);
+    is("its length", length, 7);
+}
+
+/* (NULL, 0) is an empty piece, and room for nothing. */
+static void empty_pieces(redplay *one) {
+    redplay_source empty[4] = {plain[0], plain[1], plain[2], {plain[3].name, 4, NULL, 0}};
+    size_t length = 0;
+    is("no files", redplay_check(NULL, 0, NULL, 0, NULL, 0, NULL, 0, &length), 31);
+    is("its line", length, strlen("service 31 \n"));
+    is("no room", redplay_check(plain, 4, start, 1, NULL, 0, NULL, 0, &length), REDPLAY_GOOD);
+    is("a verdict's length", length, strlen("accepted\nstart 17\nkey 17\ntick 1\nstream 1\nengine 1\narrive 6\n"));
+    is("no room for a text", redplay_why(52, NULL, 0, &length), REDPLAY_GOOD);
+    is("a text's length", length, strlen("the application has quit"));
+    is("nothing to start", redplay_start(one, NULL, 0, NULL, 0, NULL, 0, 60000, false), 31);
+    is("an empty file", redplay_start(one, empty, 4, start, 1, late, 1, 60000, false), REDPLAY_GOOD);
+    is("one that arrives", redplay_file(one, (const uint8_t *)"line", 4, NULL, 0), REDPLAY_GOOD);
+    is("a file without a name", redplay_file(one, NULL, 0, NULL, 0), REDPLAY_NO_PATH);
+    is("a scene without a name", redplay_scene(one, NULL, 0, NULL, 0), REDPLAY_NO_PATH);
+    is("an empty scene", redplay_scene(one, late, 1, NULL, 0) > 0, 1);
+    is("no cells", redplay_cells(one, 0, NULL, 0), REDPLAY_GOOD);
+    is("no fault", redplay_fault(one, 0, NULL, 0, &length), REDPLAY_OUT_OF_RANGE);
+    is("advance", redplay_advance(one, UINT32_MAX), REDPLAY_GOOD);
+    is("free", redplay_free(one), REDPLAY_GOOD);
+}
+
 /* What is told of services: an accepted one, with little room and with enough, a refused one, and what is none. */
 static void verdicts(void) {
     redplay_source broken[1] = {SOURCE("a", "{:Applicatoin")}, unnamed[1] = {SOURCE("../a", "")};
@@ -150,8 +190,11 @@ static void with_fault(redplay *one) {
 int main(void) {
     redplay handle = REDPLAY_NONE;
     is("version", redplay_version(), REDPLAY_VERSION);
+    is("version of the engine", redplay_engine_version(), REDPLAY_ENGINE_VERSION);
+    texts();
     without_session(&handle);
     verdicts();
+    empty_pieces(&handle);
     unstarted(&handle);
     with_session(&handle);
     with_fault(&handle);

@@ -28,7 +28,7 @@ static void fail(const char *what, const char *which) {
     exit(2);
 }
 
-/* A whole file, with its length. One byte is put behind it, so that an empty file has an address too. */
+/* A whole file, with its length. A zero byte is put behind it, since a script is gone through as a text. */
 static uint8_t *read_whole(const char *path, size_t *length) {
     FILE *file = fopen(path, "rb");
     if (!file || fseek(file, 0, SEEK_END)) fail("cannot read", path);
@@ -277,6 +277,14 @@ static int check(const folder *all, const uint8_t *start, const uint8_t *late, s
     return answer == REDPLAY_GOOD ? 0 : answer == REDPLAY_UNACCEPTED ? 1 : 2;
 }
 
+/* Says why there is no session. */
+static void put_why(uint32_t number) {
+    uint8_t text[128] = {0};
+    size_t length = 0;
+    redplay_why(number, text, sizeof text, &length);
+    fprintf(stderr, "player: not started: %.*s (%" PRIu32 ")\n", (int)length, (const char *)text, number);
+}
+
 /* Plays the script, or says why there is no session, and answers the exit status. */
 static int start(const choices *made, const folder *all, const uint8_t *late, size_t late_length) {
     const uint8_t *name = (const uint8_t *)made->start;
@@ -285,7 +293,7 @@ static int start(const choices *made, const folder *all, const uint8_t *late, si
     uint32_t answer = redplay_start(&session, all->files, all->count, name, strlen(made->start), late, late_length, 60000,
                                     made->lenient);
     if (answer != REDPLAY_GOOD) {
-        fprintf(stderr, "player: not started: %" PRIu32 "\n", answer);
+        put_why(answer);
         return check(all, name, late, late_length) == 1 ? 1 : 2;
     }
     size_t length;
@@ -303,7 +311,7 @@ int main(int count, char **words) {
     if (!all.count) fail("no files in", made.folder);
     size_t late_length = 0;
     uint8_t *late = made.late ? read_whole(made.late, &late_length) : NULL;
-    int status = start(&made, &all, late ? late : all.files[0].name, late_length); /* an address also where none is late */
+    int status = start(&made, &all, late, late_length);
     free(late);
     let_go(&all);
     return status;

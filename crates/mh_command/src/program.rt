@@ -7,8 +7,8 @@ ghost use Rattle.mh_command.specs.Arguments as spec;
 use clap::Command;
 use std::alloc::Global;
 
-/// The version that `--version` prints.
-const VERSION: &str = "0.1.0";
+/// The version that `--version` prints: that of the newest heading of CHANGELOG, to which `dist/build` holds it.
+const VERSION: &str = "0.2.0";
 
 /// A program without its subcommands.
 pub fn bare<'a>(alloc: Global, name: &'a str, about: &'a str) -> Command<'a>

@@ -9,4 +9,5 @@ pub mod Owned
 pub mod Playing
 pub mod Rows
 pub mod Starts
+pub mod Texts
 pub mod Verdicts

@@ -19,4 +19,5 @@ mod session;
 mod showing;
 mod start_refusal;
 mod telling;
+mod texts;
 mod verdict;

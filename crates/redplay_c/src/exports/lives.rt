@@ -13,17 +13,6 @@ use crate::start_refusal::StartRefusal;
 use std::alloc::Global;
 use std::mem;
 
-/// The number of this form of the calls. It changes when a caller has to.
-const VERSION: u32 = 1;
-
-/// The number of this form of the calls.
-#[unsafe(no_mangle)]
-pub extern "C" fn redplay_version() -> u32
-    ensures { result ≡ 1 }
-{
-    VERSION
-}
-
 /// Starts a session in a handle that has none.
 #[unsafe(no_mangle)]
 #[tactic(auto, using(crate::proofs::StartLemmas::told_some, crate::proofs::StartLemmas::has_started))]

@@ -1,7 +1,7 @@
 //! The engine of redplay, safe to use from Rust: an `Engine` owns its handle and frees it.
 //!
-//! A slice of Rust is aligned and never null, a `&mut` has no second user, and a handle lives in one `Engine`, which is
-//! neither `Send` nor `Sync`: so what `redplay.h` asks of its callers holds here by the types.
+//! A slice of Rust is aligned, a `&mut` has no second user, and a handle lives in one `Engine`, which is `Send` and not `Sync`: so what
+//! `redplay.h` asks of its callers holds here by the types.
 
 #![no_std]
 
@@ -12,7 +12,6 @@ mod raw;
 mod refused;
 
 use alloc::{vec, vec::Vec};
-use core::marker::PhantomData;
 pub use raw::{Cell, Limits, Totals};
 use raw::{Handle, Source};
 pub use refused::Refused;
@@ -79,10 +78,16 @@ fn sources(files: &[File<'_>]) -> Vec<Source> {
     files.iter().map(source).collect()
 }
 
-/// The form of the calls of the archive that is linked.
+/// The form of the calls of the archive that is linked: 1 is what this crate is written for.
 pub fn version() -> u32 {
     // SAFETY: the call takes nothing.
     unsafe { raw::redplay_version() }
+}
+
+/// The version of the engine of the archive that is linked: 10,000 times the first number, 100 times the second, and the third.
+pub fn engine_version() -> u32 {
+    // SAFETY: the call takes nothing.
+    unsafe { raw::redplay_engine_version() }
 }
 
 /// What the verifier says of a service, or why its files make none.
@@ -132,11 +137,13 @@ pub fn check(service: Service<'_>) -> Result<Verdict, Refused> {
     }
 }
 
-/// A session. It stays on the thread that started it.
+/// A session. It may go to another thread, and is used by one at a time.
 pub struct Engine {
     handle: Handle,
-    on_this_thread: PhantomData<*const ()>,
 }
+
+// SAFETY: sessions share nothing, and nothing of one is kept on the thread that started it (`redplay.h`, THREADS).
+unsafe impl Send for Engine {}
 
 impl Engine {
     /// A session of the service on this modified Julian day, 1,000,000 at most.
@@ -145,10 +152,7 @@ impl Engine {
         let handle = Handle {
             at: core::ptr::null_mut(),
         };
-        let mut engine = Engine {
-            handle,
-            on_this_thread: PhantomData,
-        };
+        let mut engine = Engine { handle };
         // SAFETY: as above; the handle has no session.
         told(unsafe {
             raw::redplay_start(
@@ -193,9 +197,9 @@ impl Engine {
     }
 
     /// What is left to do.
-    pub fn rest(&mut self) -> Rest {
-        // SAFETY: as above.
-        match unsafe { raw::redplay_rest(&mut self.handle) } {
+    pub fn rest(&self) -> Rest {
+        // SAFETY: as above. What only looks leaves the handle as it is, and no two calls are at it at once: `Engine` is not `Sync`.
+        match unsafe { raw::redplay_rest(&self.handle) } {
             0 => Rest::More,
             1 => Rest::Idle,
             _ => Rest::Ended,
@@ -203,24 +207,24 @@ impl Engine {
     }
 
     /// How many steps were taken, how many may be, and how many faults were met.
-    pub fn totals(&mut self) -> Totals {
+    pub fn totals(&self) -> Totals {
         let mut totals = Totals::default();
         // SAFETY: as above.
-        unsafe { raw::redplay_counts(&mut self.handle, &mut totals) };
+        unsafe { raw::redplay_counts(&self.handle, &mut totals) };
         totals
     }
 
     /// The bounds of the service.
-    pub fn limits(&mut self) -> Limits {
+    pub fn limits(&self) -> Limits {
         let mut limits = Limits::default();
         // SAFETY: as above.
-        unsafe { raw::redplay_bounds(&mut self.handle, &mut limits) };
+        unsafe { raw::redplay_bounds(&self.handle, &mut limits) };
         limits
     }
 
     /// The line of a fault, the first at 0. A service that the verifier accepted has none.
-    pub fn fault(&mut self, at: usize) -> Result<Vec<u8>, Refused> {
-        let handle = &mut self.handle;
+    pub fn fault(&self, at: usize) -> Result<Vec<u8>, Refused> {
+        let handle = &self.handle;
         // SAFETY: as above.
         let (answer, text) = text_of(|room, length| unsafe {
             raw::redplay_fault(handle, at, room.as_mut_ptr(), room.len(), length)
@@ -237,10 +241,10 @@ impl Engine {
     }
 
     /// The cells of a row, 0 the top one.
-    pub fn row(&mut self, row: usize) -> Result<[Cell; COLUMNS], Refused> {
+    pub fn row(&self, row: usize) -> Result<[Cell; COLUMNS], Refused> {
         let mut cells = [Cell::default(); COLUMNS];
         // SAFETY: as above.
-        told(unsafe { raw::redplay_cells(&mut self.handle, row, cells.as_mut_ptr(), COLUMNS) })?;
+        told(unsafe { raw::redplay_cells(&self.handle, row, cells.as_mut_ptr(), COLUMNS) })?;
         Ok(cells)
     }
 }

@@ -139,7 +139,7 @@ fn post(
     };
     match engine.post(input) {
         Err(Refused::NO_MEMORY) => Err(Refused::NO_MEMORY.into()),
-        Err(refused) => Ok(println!("{refused}")),
+        Err(refused) => Ok(println!("refused {}", refused.0)),
         Ok(()) => Ok(()),
     }
 }

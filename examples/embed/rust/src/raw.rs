@@ -53,6 +53,8 @@ const _: () = assert!(offset_of!(Source, content) == 16 && offset_of!(Cell, back
 
 extern "C" {
     pub fn redplay_version() -> u32;
+    pub fn redplay_engine_version() -> u32;
+    pub fn redplay_why(number: u32, text: *mut u8, text_length: usize, length: *mut usize) -> u32;
     pub fn redplay_check(
         files: *const Source,
         files_length: usize,
@@ -94,20 +96,20 @@ extern "C" {
         content: *const u8,
         content_length: usize,
     ) -> u32;
-    pub fn redplay_bounds(handle: *mut Handle, limits: *mut Limits) -> u32;
+    pub fn redplay_bounds(handle: *const Handle, limits: *mut Limits) -> u32;
     pub fn redplay_fault(
-        handle: *mut Handle,
+        handle: *const Handle,
         at: usize,
         text: *mut u8,
         text_length: usize,
         length: *mut usize,
     ) -> u32;
     pub fn redplay_advance(handle: *mut Handle, most: u32) -> u32;
-    pub fn redplay_rest(handle: *mut Handle) -> u32;
-    pub fn redplay_counts(handle: *mut Handle, totals: *mut Totals) -> u32;
+    pub fn redplay_rest(handle: *const Handle) -> u32;
+    pub fn redplay_counts(handle: *const Handle, totals: *mut Totals) -> u32;
     pub fn redplay_changed(handle: *mut Handle, rows: *mut u64) -> u32;
     pub fn redplay_cells(
-        handle: *mut Handle,
+        handle: *const Handle,
         row: usize,
         cells: *mut Cell,
         cells_length: usize,

@@ -1,11 +1,42 @@
-//! Why a call does nothing: the numbers of `redplay.h`, each with what it says.
+//! Why a call does nothing: the numbers of `redplay.h`, and of the profile for files that cannot be read.
 
+use crate::raw;
+use alloc::string::String;
 use core::fmt;
 
 /// Why a call does nothing: the number that `redplay.h` and the profile name.
 #[derive(Clone, Copy, Debug, PartialEq, Eq, Hash)]
 pub struct Refused(pub u32);
 
+/// Of a file that cannot be read, or of files that make no service, by the names of the profile.
+impl Refused {
+    pub const TRUNCATED: Refused = Refused(1);
+    pub const BAD_TAG: Refused = Refused(2);
+    pub const LONG_LENGTH: Refused = Refused(3);
+    pub const INDEFINITE: Refused = Refused(4);
+    pub const BAD_INTEGER: Refused = Refused(5);
+    pub const BAD_BOOLEAN: Refused = Refused(6);
+    pub const TRAILING: Refused = Refused(7);
+    pub const UNKNOWN_TAG: Refused = Refused(10);
+    pub const MISSING_FIELD: Refused = Refused(11);
+    pub const WRONG_ORDER: Refused = Refused(12);
+    pub const BINARY_LIMIT: Refused = Refused(13);
+    pub const BAD_VALUE: Refused = Refused(14);
+    pub const LEXICAL: Refused = Refused(20);
+    pub const SYNTAX: Refused = Refused(21);
+    pub const UNKNOWN_NAME: Refused = Refused(22);
+    pub const RANGE: Refused = Refused(23);
+    pub const TEXT_LIMIT: Refused = Refused(24);
+    pub const DOUBLE_NAME: Refused = Refused(30);
+    pub const NO_START: Refused = Refused(31);
+    pub const DOUBLE_NUMBER: Refused = Refused(32);
+    pub const NOT_AN_APPLICATION: Refused = Refused(33);
+    pub const SERVICE_LIMIT: Refused = Refused(34);
+    pub const BAD_REFERENCE: Refused = Refused(35);
+    pub const NOT_A_SCENE: Refused = Refused(37);
+}
+
+/// Of the engine, and of the library.
 impl Refused {
     pub const FILE_TOO_LARGE: Refused = Refused(40);
     pub const TOO_MANY_FILES: Refused = Refused(41);
@@ -22,50 +53,22 @@ impl Refused {
     pub const NO_PATH: Refused = Refused(105);
     pub const IN_USE: Refused = Refused(106);
     pub const OUT_OF_RANGE: Refused = Refused(107);
+}
 
-    /// What the number says. `check` tells more of a service that is not played: the file, and the byte.
-    pub const fn text(self) -> &'static str {
-        match self.0 {
-            1 => "the bytes end before the element does",
-            2 => "a tag's number is not in its shortest form, or is too large",
-            3 => "a length is not in its shortest form",
-            4 => "a length is left open",
-            5 => "an integer is missing, not in its shortest form, or past 32 bits",
-            6 => "a truth value is neither 00 nor FF",
-            7 => "there are bytes behind what an element, or the file, may hold",
-            10 => "another element is wanted, or the class does not take the field",
-            11 => "an object lacks a field that it has to have",
-            12 => "a field comes twice, or behind one of a larger number",
-            13 | 24 => "a file or a list is too long",
-            14 => "a value stands where it may not",
-            20 => "a byte begins no token, or a string is open",
-            21 => "another token is wanted, or the class does not take the field",
-            22 => "no table has this keyword or word",
-            23 => "a number is outside what is allowed",
-            30 => "two files have one name",
-            31 => "no group has the name to start with",
-            32 => "two objects of a group have one number",
-            33 => "the group to start with is a scene",
-            34 => "there are too many groups, objects or actions",
-            35 => "a written name leads to no path",
-            37 => "what is said to come late is no scene of the service",
-            40 => "a content file has more than 65,535 octets",
-            41 => "there would be more than 1,024 content files",
-            51 => "256 inputs wait: make steps, and post again",
-            52 => "the application has quit",
-            53 => "the clock would be past 4,294,967,295 milliseconds: start anew",
-            54 => "a tick is not of 1 to 60,000 milliseconds",
-            57 => "no file of this scene is awaited",
-            58 => "the scene is another one than that of the service",
-            100 => "memory was refused",
-            101 => "the handle has no session",
-            102 => "the verifier does not accept the service",
-            104 => "no key has the number",
-            105 => "the name of a file is no path",
-            106 => "the handle has a session already",
-            107 => "there is no such row, fault or day",
-            _ => "a number that this version does not know",
-        }
+impl Refused {
+    /// What the number means, as the library says it; nothing where no call of it answers the number. `check` tells more of a service
+    /// that is not played: the file, and the byte.
+    pub fn text(self) -> String {
+        let (mut text, mut length) = ([0; 128], 0);
+        // SAFETY: the room has its length.
+        let answer =
+            unsafe { raw::redplay_why(self.0, text.as_mut_ptr(), text.len(), &mut length) };
+        let told = if answer == 0 {
+            length.min(text.len())
+        } else {
+            0
+        };
+        String::from_utf8_lossy(&text[..told]).into_owned()
     }
 }
 

@@ -1,0 +1,85 @@
+//! What the crate says, against the archive that is linked.
+
+use redplay::{engine_version, version, Engine, Refused, Service};
+
+const ALL: [Refused; 39] = [
+    Refused::TRUNCATED,
+    Refused::BAD_TAG,
+    Refused::LONG_LENGTH,
+    Refused::INDEFINITE,
+    Refused::BAD_INTEGER,
+    Refused::BAD_BOOLEAN,
+    Refused::TRAILING,
+    Refused::UNKNOWN_TAG,
+    Refused::MISSING_FIELD,
+    Refused::WRONG_ORDER,
+    Refused::BINARY_LIMIT,
+    Refused::BAD_VALUE,
+    Refused::LEXICAL,
+    Refused::SYNTAX,
+    Refused::UNKNOWN_NAME,
+    Refused::RANGE,
+    Refused::TEXT_LIMIT,
+    Refused::DOUBLE_NAME,
+    Refused::NO_START,
+    Refused::DOUBLE_NUMBER,
+    Refused::NOT_AN_APPLICATION,
+    Refused::SERVICE_LIMIT,
+    Refused::BAD_REFERENCE,
+    Refused::NOT_A_SCENE,
+    Refused::FILE_TOO_LARGE,
+    Refused::TOO_MANY_FILES,
+    Refused::QUEUE_FULL,
+    Refused::ENDED,
+    Refused::CLOCK_FULL,
+    Refused::TICK_RANGE,
+    Refused::NOT_LATE,
+    Refused::SCENE_DIFFERS,
+    Refused::NO_MEMORY,
+    Refused::NO_SESSION,
+    Refused::UNACCEPTED,
+    Refused::NO_KEY,
+    Refused::NO_PATH,
+    Refused::IN_USE,
+    Refused::OUT_OF_RANGE,
+];
+
+#[test]
+fn each_number_has_a_text_and_no_other() {
+    for number in 1..1000 {
+        let why = Refused(number);
+        assert_eq!(ALL.contains(&why), !why.text().is_empty(), "{why}");
+    }
+}
+
+#[test]
+fn a_text_is_shown_with_its_number() {
+    assert_eq!(
+        Refused::QUEUE_FULL.to_string(),
+        "256 inputs wait: make steps, and post again (51)"
+    );
+}
+
+#[test]
+fn the_archive_is_of_these_versions() {
+    assert_eq!((version(), engine_version()), (1, 200));
+}
+
+#[test]
+fn empty_pieces_are_told_by_their_numbers() {
+    let nothing = Service {
+        files: &[],
+        start: b"",
+        late: b"",
+    };
+    assert_eq!(
+        Engine::start(nothing, 60_000, false).err(),
+        Some(Refused::NO_START)
+    );
+}
+
+#[test]
+fn a_session_may_go_to_another_thread() {
+    fn goes<T: Send>() {}
+    goes::<Engine>();
+}
