@@ -1,0 +1,12 @@
+use Rattle.std.proofs.Common.{rules}
+use Rattle.mh_machine.proofs.StageLemmas.{right_exchanged}
+use Rattle.mh_machine.proofs.stage.Stage.exchange.Goals as goal
+
+pub invariant_of-self : goal.invariant_of-self
+invariant_of-self c =
+    right_exchanged c.args.application.now c.self.inside.objects c.exchange.new.self c.args.scene c.self.inside.stack.places c.keep.new.self.places
+    c.self.inside.screen c.spoil_others.new.screen c.spoil_unless.new.screen
+    c.has_other_scene-was_other.result c.has_other_scene-is_other.result _
+    c.exchange.ensures c.keep.ensures c.spoil_others.ensures.same c.spoil_unless.ensures.same
+    c.spoil_others.ensures.spoilt c.spoil_unless.ensures.spoilt (search rules)
+    c.has_other_scene-was_other.ensures c.has_other_scene-is_other.ensures c.self.invariant
