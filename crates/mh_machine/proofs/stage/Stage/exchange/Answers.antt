@@ -1,4 +1,8 @@
-use Rattle.std.proofs.Common.{rules}
+use Rattle.std.specs.Prelude.{List}
+use Rattle.std.proofs.Common.{rules, subst}
+use Rattle.mh_base.specs.declared.obj_ref.ObjRef.{ObjRef}
+use Rattle.mh_model.specs.State.{all}
+use Rattle.mh_machine.specs.Marks.{SpoilsOthers}
 use Rattle.mh_machine.proofs.StageLemmas.{right_exchanged}
 use Rattle.mh_machine.proofs.stage.Stage.exchange.Goals as goal
 
@@ -8,5 +12,6 @@ invariant_of-self c =
     c.self.inside.screen c.spoil_others.new.screen c.spoil_unless.new.screen
     c.has_other_scene-was_other.result c.has_other_scene-is_other.result _
     c.exchange.ensures c.keep.ensures c.spoil_others.ensures.same c.spoil_unless.ensures.same
-    c.spoil_others.ensures.spoilt c.spoil_unless.ensures.spoilt (search rules)
+    (subst (λ (rs : List ObjRef). SpoilsOthers (all c.self.inside.objects) c.args.application.now rs c.self.inside.screen.marks c.spoil_others.new.screen.marks) c.up.ensures c.spoil_others.ensures.spoilt)
+    c.spoil_unless.ensures.spoilt (search rules)
     c.has_other_scene-was_other.ensures c.has_other_scene-is_other.ensures c.self.invariant
