@@ -2,13 +2,14 @@
 use Rattle.std.specs.Prelude.{◌≡◌, ℕ, ◌<◌, ◌||◌, ◌&&◌, Bool, true, false, not, if◌then◌else◌, List, [], ◌∷◌, ◌++◌, ◌==◌, length, map, Option, Some, None, refl}
 use Rattle.std.specs.List.{list_any}
 use Rattle.std.specs.Option.{option_map, option_map_or}
+use Rattle.std.specs.Str.{bytes_eq}
 use Rattle.std.proofs.Common.{arith, suc, ap, ◌∙◌, sym, subst, ⊎_elim}
 use Rattle.std.proofs.lemmas.Bool.{cases_Bool, eqb-true, false≢true}
 use Rattle.std.proofs.lemmas.List.{map-append}
 use Rattle.mh_base.specs.declared.obj_ref.ObjRef.{ObjRef}
 use Rattle.mh_group.specs.declared.written.Position.{Position}
 use Rattle.mh_group.specs.Table.{is_visible}
-use Rattle.mh_display.specs.Surface.{Surface, is_stale, IsRight, Spoils}
+use Rattle.mh_display.specs.Surface.{Surface, is_stale, IsRight, IsStale, Spoils}
 use Rattle.mh_model.specs.declared.object.Body.{Body}
 use Rattle.mh_model.specs.declared.object.Fixed.{Fixed}
 use Rattle.mh_model.specs.declared.object.Object.{Object}
@@ -25,7 +26,7 @@ use Rattle.mh_model.specs.State.{Objects, all}
 use Rattle.mh_model.proofs.ServiceLemmas.{same_ref-same}
 use Rattle.mh_store.proofs.PlacingLemmas.{all-changed}
 use Rattle.mh_store.specs.Places.{is_among}
-use Rattle.mh_machine.specs.Marks.{SpoilsEach}
+use Rattle.mh_machine.specs.Marks.{SpoilsEach, SpoilsOthers}
 use Rattle.mh_machine.proofs.StageLemmas.{same_cells, found_changed, paint_changed}
 
 -- One after another they are marked.
@@ -57,6 +58,30 @@ spoils_more os rs q s t u before next c inside clean =
 
 pub each_spoilt : (rs : List ObjRef) (os : List Object) (stack : List ObjRef) (s t : Surface) → t.planes ≡ s.planes → SpoilsEach os rs s.marks t.marks → IsRight os stack s → IsRight os stack t
 each_spoilt rs os stack s t same spoils right c inside clean = ap (λ (p : Planes). cell_of p c) same ∙ right c inside (spoils c inside clean).0
+
+-- Those of other groups are marked, the first and then what is left.
+
+pub others_first : (os : List Object) (g : List ℕ) (q : ObjRef) (rs : List ObjRef) (s t u : List ℕ) → SpoilsOthers os g (q ∷ []) s t → SpoilsOthers os g rs t u → SpoilsOthers os g (q ∷ rs) s u
+others_first os g q rs s t u first others c inside clean =
+    let last = others c inside clean in
+    let before = first c inside last.0 in
+    (before.0, (before.1.0, last.1))
+
+-- one alone: it is marked, or it is of the group
+pub other_marked : (os : List Object) (g : List ℕ) (q : ObjRef) (s t : List ℕ) → Spoils (object_at q os) s t → SpoilsOthers os g (q ∷ []) s t
+other_marked os g q s t spoils c inside clean =
+    let marked = spoils c inside clean in
+    (marked.0, (λ other. marked.1, tt))
+
+pub own_stays : (os : List Object) (g : List ℕ) (q : ObjRef) (s : List ℕ) → bytes_eq q.group g ≡ true → SpoilsOthers os g (q ∷ []) s s
+own_stays os g q s own c inside clean = (clean, (λ other. absurd (false≢true (sym other ∙ own)), tt))
+
+pub others_none : (os : List Object) (g : List ℕ) (s : List ℕ) → SpoilsOthers os g [] s s
+others_none os g s c inside clean = (clean, tt)
+
+-- where all are stale, they are
+pub others_stale : (os : List Object) (g : List ℕ) (rs : List ObjRef) (s : List ℕ) → IsStale s → SpoilsOthers os g rs s s
+others_stale os g rs s each c inside clean = absurd (false≢true (sym clean ∙ each c inside))
 
 -- What they are changed to can be seen in them alone.
 

@@ -1,6 +1,7 @@
 -- Beside what has changed, the picture stays as it was.
-use Rattle.std.specs.Prelude.{◌≡◌, ℕ, ◌<◌, Bool, true, false, not, if◌then◌else◌, List, [], ◌∷◌, ◌++◌, map, reverse, Option, Some, None, refl}
-use Rattle.std.specs.Option.{option_map}
+use Rattle.std.specs.Prelude.{◌≡◌, ℕ, ◌<◌, Bool, true, false, not, if◌then◌else◌, List, [], ◌∷◌, ◌++◌, filter, map, reverse, Option, Some, None, refl}
+use Rattle.std.specs.Option.{option_map, option_or}
+use Rattle.std.specs.Str.{bytes_eq}
 use Rattle.std.proofs.Common.{ap, ◌∙◌, sym, subst, append_assoc, append-nil}
 use Rattle.std.proofs.lemmas.List.{reverse-append}
 use Rattle.mh_base.specs.declared.obj_ref.ObjRef.{ObjRef}
@@ -28,7 +29,10 @@ use Rattle.mh_model.specs.State.{Objects, all}
 use Rattle.mh_model.proofs.PlanesLemmas.{is_picture, cell_of-picture, blank-picture}
 use Rattle.mh_model.proofs.ServiceLemmas.{same_ref-same}
 use Rattle.mh_machine.specs.declared.plan.Stacking.TheVariants as stacking
+use Rattle.mh_machine.specs.Marks.{OthersPaintNothing, SpoilsOthers, SpoilsUnless}
 use Rattle.mh_machine.specs.Plans.{restacked}
+use Rattle.mh_store.specs.Apart.{AreOfOthers}
+use Rattle.mh_store.proofs.BothLemmas.{object_at-all}
 use Rattle.mh_store.proofs.PlacingLemmas.{all-changed}
 
 -- Cells, painted from the bottom of the stack up.
@@ -106,6 +110,17 @@ risen_below f (x ∷ rs) r q u none = by (same_ref q x) (risen_below f rs r q (o
     by : (b : Bool) → risen f (just_below r q rs) (over (f x) u) ≡ risen f rs (over (f x) u) → risen f (if b then r ∷ x ∷ rs else x ∷ just_below r q rs) u ≡ risen f rs (over (f x) u)
     by true others = ap (λ (w : Under). risen f rs (over (f x) w)) (over_nothing (f r) u none)
     by false others = others
+
+-- references to one group stay, and those to others, which paint nothing, go
+risen_kept : (f h : ObjRef → Paint) (g : List ℕ) (rs : List ObjRef) (u : Under) → OthersPaintNothing f g rs → ((r : ObjRef) → bytes_eq r.group g ≡ true → h r ≡ f r)
+    → risen h (filter (λ r. bytes_eq r.group g) rs) u ≡ risen f rs u
+risen_kept f h g [] u none same = refl
+risen_kept f h g (x ∷ rs) u none same = by (bytes_eq x.group g) refl (λ w. risen_kept f h g rs w none.1 same)
+  where
+    by : (b : Bool) → bytes_eq x.group g ≡ b → ((w : Under) → risen h (filter (λ r. bytes_eq r.group g) rs) w ≡ risen f rs w)
+        → risen h (if b then x ∷ filter (λ r. bytes_eq r.group g) rs else filter (λ r. bytes_eq r.group g) rs) u ≡ risen f rs (over (f x) u)
+    by true e others = ap (λ (p : Paint). risen h (filter (λ r. bytes_eq r.group g) rs) (over p u)) (same x e) ∙ others (over (f x) u)
+    by false e others = others u ∙ sym (ap (risen f rs) (over_nothing (f x) u (none.0 e)))
 
 risen_moved : (f : ObjRef → Paint) (rs : List ObjRef) (r : ObjRef) (how : Reorder) (u : Under) → f r ≡ nothing → risen f (restacked (stacking.Move r how) rs) u ≡ risen f rs u
 risen_moved f rs r reorder.Nothing u none = refl
@@ -223,6 +238,32 @@ right_fallen os stack last r found s t made e same spoils right =
 pub right_moved : (os : List Object) (stack last : List ObjRef) (r : ObjRef) (how : Reorder) (found : Option Object) (s t : Surface) → last ≡ restacked (stacking.Move r how) stack → found ≡ object_at r os → t.planes ≡ s.planes → Spoils found s.marks t.marks → IsRight os stack s → IsRight os last t
 right_moved os stack last r how found s t made e same spoils right =
     moved_right os stack last r found s t e same spoils (λ c none. ap (λ (x : List ObjRef). risen (paint_at os c) x ((32, 0), 0)) made ∙ risen_moved (paint_at os c) stack r how ((32, 0), 0) none) right
+
+-- a scene goes and another comes, of neither of which a reference to the group is
+
+outside : (b : Bool) (g : List ℕ) (os : List Object) → b ≡ true → AreOfOthers b g os → (r : ObjRef) → bytes_eq r.group g ≡ true → object_at r os ≡ None
+outside true g os is others = others
+outside false g os is others = absurd cc
+
+pub right_exchanged : (g : List ℕ) (os last : Objects) (ps : List Object) (stack rest : List ObjRef) (s t u : Surface) (was is marked : Bool)
+    → last ≡ record os { scene = ps } → rest ≡ filter (λ r. bytes_eq r.group g) stack → t.planes ≡ s.planes → u.planes ≡ t.planes
+    → SpoilsOthers (all os) g stack s.marks t.marks → SpoilsUnless marked t.marks u.marks → (marked ≡ true → (was ≡ true) × (is ≡ true))
+    → AreOfOthers was g os.scene → AreOfOthers is g last.scene → IsRight (all os) stack s → IsRight (all last) rest u
+right_exchanged g os last ps stack rest s t u was is marked made kept same same2 first second both own others right c inside clean =
+    let behind : (is_stale t.marks c ≡ false) × (marked ≡ true) = second c inside clean in
+    let before : (is_stale s.marks c ≡ false) × OthersPaintNothing (paint_at (all os) c) g stack = first c inside behind.0 in
+    let found : (r : ObjRef) → bytes_eq r.group g ≡ true → paint_at (all last) c r ≡ paint_at (all os) c r =
+    λ r of. ap (painted c)
+    (object_at-all r last
+    ∙ ap (option_or (object_at r last.application)) (outside is g last.scene (both behind.1).1 others r of)
+    ∙ ap (λ (x : Objects). option_or (object_at r x.application) None) made
+    ∙ ap (option_or (object_at r os.application)) (sym (outside was g os.scene (both behind.1).0 own r of))
+    ∙ sym (object_at-all r os)) in
+    ap (λ (p : Planes). cell_of p c) (same2 ∙ same) ∙ right c inside before.0
+    ∙ cell-risen (all os) stack c
+    ∙ sym (ap as_cell (ap (λ (x : List ObjRef). risen (paint_at (all last) c) x ((32, 0), 0)) kept
+    ∙ risen_kept (paint_at (all os) c) (paint_at (all last) c) g stack ((32, 0), 0) before.1 found))
+    ∙ sym (cell-risen (all last) rest c)
 
 -- where every cell is stale, nothing is wrong
 pub right_stale : (os : List Object) (stack : List ObjRef) (s : Surface) → ((c : ℕ) → c < 2160 → is_stale s.marks c ≡ true) → IsRight os stack s

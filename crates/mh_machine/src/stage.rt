@@ -21,7 +21,7 @@ ghost use Rattle.mh_store.specs.Places.{is_among};
 ghost use Rattle.mh_machine.specs.Plans.{restacked};
 
 use crate::plan::Stacking;
-use crate::stage::marking::{spoil_at, spoil_each, spoil_placed};
+use crate::stage::marking::{spoil_at, spoil_each, spoil_others, spoil_placed, spoil_unless};
 use mh_actions::ordering::Reorder;
 use mh_base::{GroupName, ObjRef, Octets, Value};
 use mh_display::{Screen, Stack, Walk};
@@ -38,6 +38,8 @@ pub struct Stage {
     objects: Objects,
     stack: Stack,
     screen: Screen,
+    /// Whether a scene has come since the picture was painted.
+    exchanged: bool,
 }
 
 impl Model for Stage {
@@ -68,6 +70,7 @@ impl Stage {
             objects: Objects::new(application),
             stack: Stack::new(alloc),
             screen,
+            exchanged: false,
         })
     }
 
@@ -224,14 +227,24 @@ impl Stage {
     }
 
     /// Puts the objects of another scene in the place of those that are there. On the stack stays what is
-    /// the application's.
+    /// the application's. What goes is marked in its boxes; what comes is marked when it runs. Where a scene has come
+    /// since the picture was painted, nobody looks at each: all is marked then, which costs less than box by box.
     pub fn exchange(&mut self, scene: Group, application: &GroupName)
         ensures objects { self.new.objects ≡ record self.old.objects { scene = scene } }
         ensures stack { self.new.stack ≡ filter (λ r. bytes_eq r.group application.now) self.old.stack }
     {
+        let was_other = self.objects.has_other_scene(application);
+        spoil_others(
+            &mut self.screen,
+            &self.objects,
+            self.stack.up(),
+            application,
+        );
         self.objects.exchange(scene);
         self.stack.keep(application);
-        self.screen.spoil_all();
+        let is_other = self.objects.has_other_scene(application);
+        spoil_unless(&mut self.screen, was_other && is_other && !self.exchanged);
+        self.exchanged = true;
     }
 
     /// Paints what is to be painted.
@@ -241,6 +254,7 @@ impl Stage {
         ensures clean { IsClean self.new.marks }
     {
         self.screen.repaint(&self.objects, &self.stack);
+        self.exchanged = false;
     }
 
     /// The picture. What is to be painted is painted now.

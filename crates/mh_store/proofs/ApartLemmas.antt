@@ -18,7 +18,7 @@ use Rattle.mh_model.specs.Service.{object_at, parts}
 use Rattle.mh_model.specs.State.{Objects, all}
 use Rattle.mh_model.proofs.PartLemmas.{changed-own, changed-others}
 use Rattle.mh_model.proofs.ServiceLemmas.{same_ref-same}
-use Rattle.mh_store.specs.Apart.{AreApart}
+use Rattle.mh_store.specs.Apart.{AreApart, AreOfOthers}
 use Rattle.mh_store.specs.Placing.{renewed_in}
 use Rattle.mh_store.specs.Table.{IsKeyed, objects_of}
 use Rattle.mh_store.specs.Trying.{left_over}
@@ -86,6 +86,18 @@ names_apart true g h es fs is own others = λ r there. by r (its_group r h fs ot
         let other : true ≡ not true = is ∙ ap not equal in
         absurd cc
     by r named false other = elsewhere r g es other own
+
+pub name_apart : (b : Bool) (g h : List ℕ) (es : List (ℕ × Object)) → b ≡ not (bytes_eq h g) → IsKeyed h es → AreOfOthers b g (objects_of es)
+name_apart false g h es is keyed = tt
+name_apart true g h es is keyed = λ r named. by r ((bytes_eq-Decides r.group g).0 named) (bytes_eq r.group h) refl
+  where
+    by : (r : ObjRef) → r.group ≡ g → (t : Bool) → bytes_eq r.group h ≡ t → object_at r (objects_of es) ≡ None
+    by r named true same =
+        let both : h ≡ g = sym ((bytes_eq-Decides r.group h).0 same) ∙ named in
+        let equal = (bytes_eq-Decides h g).1 both in
+        let other : true ≡ not true = is ∙ ap not equal in
+        absurd cc
+    by r named false other = sym (object_at-elsewhere r h es other keyed)
 
 -- What is found in the second of two that are apart is found among all
 

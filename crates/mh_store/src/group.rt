@@ -7,7 +7,7 @@ ghost use Rattle.mh_model.specs.Bodies.{given};
 ghost use Rattle.mh_model.specs.Configuration.{are_apart};
 ghost use Rattle.mh_model.specs.Edits.{edited};
 ghost use Rattle.mh_model.specs.Service.{object_at, is_in, fresh};
-ghost use Rattle.mh_store.specs.Apart.{AreApart};
+ghost use Rattle.mh_store.specs.Apart.{AreApart, AreOfOthers};
 ghost use Rattle.mh_store.specs.Bringing.{ready_from, all_put, keys_of, AreOwn};
 ghost use Rattle.mh_store.specs.Places.{is_among, places_at, places_from};
 ghost use Rattle.mh_store.specs.Placing.{renewed_in};
@@ -94,6 +94,13 @@ impl Group {
         ensures { AreApart result self.now other.now }
     {
         self.name != other.name
+    }
+
+    /// Whether this is another group than the one of the name, so that no reference to that one leads into it.
+    pub(crate) fn is_other(&self, name: &GroupName) -> bool
+        ensures { AreOfOthers result name.now self.now }
+    {
+        self.name != *name
     }
 
     pub(crate) fn allocator(&self) -> Global {

@@ -17,6 +17,7 @@ pub mod objects;
 mod places;
 mod placing;
 mod ready;
+mod scene;
 mod table;
 mod trying;
 

@@ -1,5 +1,5 @@
 //! `Objects`: those of the application and those of the scene.
-ghost use Rattle.std.specs.Prelude.{◌≡◌, ◌<◌, ◌^◌, IfOk, OnOk, OnErr, [], true, false, length, slice_get};
+ghost use Rattle.std.specs.Prelude.{◌≡◌, IfOk, OnOk, OnErr, [], true, false, length, slice_get};
 ghost use Rattle.std.specs.Option.{option_copied, option_map_or};
 ghost use Rattle.mh_group.specs.Table.{is_visible};
 ghost use Rattle.mh_model.specs.Bodies.{given};
@@ -7,21 +7,20 @@ ghost use Rattle.mh_model.specs.Edits.{edited};
 ghost use Rattle.mh_model.specs.Rules.{changed, text_brought, all_placed};
 ghost use Rattle.mh_model.specs.Service.{object_at, parts};
 ghost use Rattle.mh_model.specs.State.{all};
-ghost use Rattle.mh_store.specs.Bringing.{ready_from, all_put, keys_of, AreOwn};
+ghost use Rattle.mh_store.specs.Apart.{AreOfOthers};
 ghost use Rattle.mh_store.specs.Places.{is_among, places_from};
-ghost use Rattle.mh_store.specs.Placing.{renewed, renewed_in};
-ghost use Rattle.mh_store.specs.Trying.{of_scene};
+ghost use Rattle.mh_store.specs.Placing.{renewed};
 
 use crate::placing::{ready_placed, renew_all};
-use crate::ready::Ready;
+use crate::scene::{at_in, boxed_in, is_other_in, len_in, places_in, put_in, ready_in, renew_in};
 use crate::trying::{
     edit_application_first, edit_scene_first, give_application_first, give_scene_first,
 };
 use crate::{Boxed, Group};
-use mh_base::{ObjRef, Octets, Value};
+use mh_base::{GroupName, ObjRef, Octets, Value};
 use mh_group::Position;
 use mh_model::{Edit, Object};
-use std::alloc::{AllocError, Global};
+use std::alloc::AllocError;
 use std::marker::Model;
 
 /// The objects that are present: those of the active application, and those of the current scene.
@@ -93,6 +92,14 @@ impl Objects {
         } else {
             at_in(&self.scene, place - behind)
         }
+    }
+
+    /// Whether the scene, if there is one, is another group than the one of the name, so that no reference to that one
+    /// leads to an object of the scene.
+    pub fn has_other_scene(&self, name: &GroupName) -> bool
+        ensures { AreOfOthers result name.now self.now.scene }
+    {
+        is_other_in(&self.scene, name)
     }
 
     /// How many objects are present.
@@ -205,88 +212,5 @@ impl Objects {
     {
         self.apart = self.application.is_apart(&scene);
         self.scene = Some(scene);
-    }
-}
-
-/// The object of the scene, if there is one, to which the reference leads.
-fn boxed_in<'a>(scene: &'a Option<Group>, at: &ObjRef) -> Option<&'a Boxed>
-    ensures { option_copied result ≡ object_at at.now (of_scene scene.now) }
-{
-    match scene {
-        Some(group) => group.boxed(at),
-        None => None,
-    }
-}
-
-/// The object at this place of the scene, if there is one.
-fn at_in(scene: &Option<Group>, place: usize) -> Option<&Object>
-    ensures { option_copied result ≡ slice_get (of_scene scene.now) place }
-{
-    match scene {
-        Some(group) => group.at(place),
-        None => None,
-    }
-}
-
-/// How many objects the scene has, if there is one.
-fn len_in(scene: &Option<Group>) -> usize
-    ensures all { result ≡ length (of_scene scene.now) }
-    ensures small { result < 2 ^ 63 }
-{
-    match scene {
-        Some(group) => group.len(),
-        None => 0,
-    }
-}
-
-/// The places of the scene's objects that have these references; its first object stands at `first`.
-fn places_in(
-    alloc: Global,
-    scene: &Option<Group>,
-    first: usize,
-    named: &[ObjRef],
-) -> Result<Vec<usize>, AllocError>
-    requires { first < 2 ^ 63 }
-    ensures { IfOk result (λ places. places.items ≡ places_from first (is_among named.now) (of_scene scene.now)) }
-{
-    match scene {
-        Some(group) => group.places(first, named),
-        None => Ok(Vec::new(alloc)),
-    }
-}
-
-/// The objects of the scene to which a text is brought, with it, and with their places.
-fn ready_in(
-    alloc: Global,
-    scene: &Option<Group>,
-    waiting: &[ObjRef],
-    text: &Octets,
-) -> Result<Vec<Ready>, AllocError>
-    ensures { IfOk result (λ ready. ready.items
-        ≡ ready_from 0 (is_among waiting.now) text.now (of_scene scene.now)) }
-{
-    match scene {
-        Some(group) => group.ready(waiting, text),
-        None => Ok(Vec::new(alloc)),
-    }
-}
-
-/// Puts these at their places among the objects of the scene.
-fn put_in(scene: &mut Option<Group>, ready: Vec<Ready>)
-    requires { AreOwn ready.items (keys_of (of_scene scene.old)) }
-    ensures { of_scene scene.new ≡ all_put ready.items (of_scene scene.old) }
-{
-    if let Some(group) = scene {
-        group.put(ready);
-    }
-}
-
-/// Puts this where the scene's object with its reference is.
-fn renew_in(scene: &mut Option<Group>, kept: Boxed)
-    ensures { of_scene scene.new ≡ renewed_in kept (of_scene scene.old) }
-{
-    match scene {
-        Some(group) => drop(group.renew(kept)),
-        None => drop(kept),
     }
 }
