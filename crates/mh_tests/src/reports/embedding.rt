@@ -59,6 +59,7 @@ fn start(alloc: Global, tags: &TagTable, sources: &[Source]) -> Option<Engine> {
 fn longest(alloc: Global, tags: &TagTable, sources: &[Source]) -> Option<Vec<u8>> {
     let accepted = verify(alloc, service(alloc, tags, sources)?, &[]).ok()?;
     let bounds = accepted.bounds();
+    drop(accepted);
     let (start, key, tick) = (bounds.start, bounds.key, bounds.tick);
     let line = format!(in alloc; "start {start} key {key} tick {tick}\n").ok()?;
     Some(line.into_bytes())
