@@ -23,12 +23,12 @@ fn told(alloc: Global, refusal: &Refusal) -> Option<Vec<u8>> {
 
 /// That the service is accepted; or the number of its refusal, and whether that shows what it says.
 fn judged(alloc: Global, service: Service) -> Option<Vec<u8>> {
-    let verdict = verify(alloc, service, &[]);
-    let judged = match &verdict {
-        Ok(_) => Vec::from_slice(alloc, b"accepted").ok(),
-        Err(refusal) => told(alloc, refusal),
+    let refused = verify(alloc, service, &[]).err();
+    let judged = match &refused {
+        None => Vec::from_slice(alloc, b"accepted").ok(),
+        Some(refusal) => told(alloc, refusal),
     };
-    drop(verdict);
+    drop(refused);
     judged
 }
 
@@ -57,23 +57,10 @@ impl Evident for Refusal {
     }
 }
 
-/// That the service is accepted, or what is answered of its refusal.
-fn of_verdict<A: Drop, R: Evident>(
-    alloc: Global,
-    verdict: Result<A, R>,
-    asked: &str,
-) -> Option<Vec<u8>> {
-    let mut verdict = verdict;
-    match &mut verdict {
-        Ok(_) => said(alloc, b"accepted"),
-        Err(refusal) => refusal.answer(alloc, asked),
-    }
-}
-
-/// What is answered of a refusal that is written by hand.
-fn of_claim<R: Evident>(alloc: Global, claimed: Option<R>, asked: &str) -> Option<Vec<u8>> {
-    let mut claimed = claimed;
-    claimed.as_mut()?.answer(alloc, asked)
+/// What is answered of a refusal; none where nothing is refused.
+fn of_refusal<R: Evident>(alloc: Global, refused: Option<R>, asked: &str) -> Option<Vec<u8>> {
+    let mut refused = refused;
+    refused.as_mut()?.answer(alloc, asked)
 }
 
 /// What is answered of a service: of its verdict (`holds`), of its refusal (`arrows`, `changed`), or of a refusal that is
@@ -81,8 +68,8 @@ fn of_claim<R: Evident>(alloc: Global, claimed: Option<R>, asked: &str) -> Optio
 pub fn of_evidence(alloc: Global, service: Service, asked: &str) -> Option<Vec<u8>> {
     match word(asked, 0) {
         "holds" => judged(alloc, service),
-        "claimed" => of_claim(alloc, claimed(alloc, service, asked), asked),
-        _ => of_verdict(alloc, verify(alloc, service, &[]), asked),
+        "claimed" => of_refusal(alloc, claimed(alloc, service, asked), asked),
+        _ => of_refusal(alloc, verify(alloc, service, &[]).err(), asked),
     }
 }
 
