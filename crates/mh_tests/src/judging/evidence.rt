@@ -40,8 +40,8 @@ fn with_arrows(alloc: Global, refusal: &Refusal) -> Option<Vec<u8>> {
     put.and(Some(lines))
 }
 
-/// What is asked about. Its owners below are generic, since a function that owns a refusal by name is dear to prove.
-trait Evident: Drop {
+/// What is asked about. Its owner below is generic, since a function that owns a refusal by name is dear to prove.
+trait Evident {
     /// The arrows of a refusal (`arrows`), and whether it shows what it says, once it is changed where that is asked
     /// (`changed`).
     fn answer(&mut self, alloc: Global, asked: &str) -> Option<Vec<u8>>;
@@ -58,7 +58,11 @@ impl Evident for Refusal {
 }
 
 /// What is answered of a refusal; none where nothing is refused.
-fn of_refusal<R: Evident>(alloc: Global, refused: Option<R>, asked: &str) -> Option<Vec<u8>> {
+fn of_refusal<R: Evident + Drop>(
+    alloc: Global,
+    refused: Option<R>,
+    asked: &str,
+) -> Option<Vec<u8>> {
     let mut refused = refused;
     refused.as_mut()?.answer(alloc, asked)
 }

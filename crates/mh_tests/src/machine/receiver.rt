@@ -56,11 +56,25 @@ impl Resident for Doubling {
     }
 }
 
+impl Doubling {
+    fn new(alloc: Global) -> Option<Doubling> {
+        let signature = signature(alloc, b"DBL").ok()?;
+        Some(Doubling { alloc, signature })
+    }
+}
+
 /// One that always fails.
 #[derive(Drop)]
 struct Failing {
     signature: Signature,
     ghost its_own: { signature ≡ numbers (codes "NOT") },
+}
+
+impl Failing {
+    fn new(alloc: Global) -> Option<Failing> {
+        let signature = signature(alloc, b"NOT").ok()?;
+        Some(Failing { signature })
+    }
 }
 
 impl Resident for Failing {
@@ -173,25 +187,15 @@ fn beside<P: Resident>(alloc: Global, asked: &str, programs: Vec<P>) -> Option<V
     told
 }
 
-fn doubling(alloc: Global) -> Option<Doubling> {
-    let signature = signature(alloc, b"DBL").ok()?;
-    Some(Doubling { alloc, signature })
-}
-
-fn failing(alloc: Global) -> Option<Failing> {
-    let signature = signature(alloc, b"NOT").ok()?;
-    Some(Failing { signature })
-}
-
 /// Which programs there are, the one that is called, and a number.
 struct Beside;
 
 impl Question for Beside {
     fn answer(alloc: Global, asked: &str, _: &[u8]) -> Option<Vec<u8>> {
         let mut programs: Vec<Box<dyn Resident>> = Vec::new(alloc);
-        let doubling: Box<dyn Resident> = Box::new(alloc, doubling(alloc)?).ok()?;
+        let doubling: Box<dyn Resident> = Box::new(alloc, Doubling::new(alloc)?).ok()?;
         programs.push(doubling).ok()?;
-        let failing: Box<dyn Resident> = Box::new(alloc, failing(alloc)?).ok()?;
+        let failing: Box<dyn Resident> = Box::new(alloc, Failing::new(alloc)?).ok()?;
         programs.push(failing).ok()?;
         beside(alloc, asked, programs)
     }
