@@ -112,9 +112,9 @@ fn links(alloc: Global, asked: &str) -> Option<Seq<Link>> {
 }
 
 /// The place and the configuration of a refusal, its reference, and its chain.
-type Claim = ((Place, Config), (ObjRef, Seq<Link>));
+type ClaimedParts = ((Place, Config), (ObjRef, Seq<Link>));
 
-fn claim(alloc: Global, asked: &str) -> Option<Claim> {
+fn parts(alloc: Global, asked: &str) -> Option<ClaimedParts> {
     let where_it_is = place(alloc, asked).zip(config(alloc, word(asked, 6)));
     let object = reference(alloc, word(asked, 7), word(asked, 8));
     where_it_is.zip(object.zip(links(alloc, asked)))
@@ -123,8 +123,8 @@ fn claim(alloc: Global, asked: &str) -> Option<Claim> {
 /// The refusal that is written so: `claimed KIND GROUP OBJECT INDEX ACTION SCENE GROUP OBJECT`, its place, its action or
 /// `-`, its scene or `-`, and the reference; and for each link ` by GROUP OBJECT INDEX GROUP OBJECT`.
 pub fn claimed(alloc: Global, service: Service, asked: &str) -> Option<Refusal> {
-    let parts = kind(asked).zip(claim(alloc, asked)).zip(Some(service));
-    let ((kind, ((place, config), (object, chain))), service) = parts?;
+    let claimed = kind(asked).zip(parts(alloc, asked)).zip(Some(service));
+    let ((kind, ((place, config), (object, chain))), service) = claimed?;
     Some(Refusal {
         kind,
         place: Some(place),

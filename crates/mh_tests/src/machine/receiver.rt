@@ -178,7 +178,7 @@ fn arranged<P: Drop>(asked: &str, programs: Vec<P>) -> Vec<P> {
 }
 
 /// What comes of the service, which was verified beside all of these programs.
-fn beside<P: Resident>(alloc: Global, asked: &str, programs: Vec<P>) -> Option<Vec<u8>> {
+fn outcome_beside<P: Resident>(alloc: Global, asked: &str, programs: Vec<P>) -> Option<Vec<u8>> {
     let accepted = verified(alloc, asked, programs.as_slice());
     let (accepted, programs) = accepted.zip(Some(arranged(asked, programs)))?;
     let mut started = Receiver::start(alloc, accepted, programs, DAY);
@@ -197,7 +197,7 @@ impl Question for Beside {
         programs.push(doubling).ok()?;
         let failing: Box<dyn Resident> = Box::new(alloc, Failing::new(alloc)?).ok()?;
         programs.push(failing).ok()?;
-        beside(alloc, asked, programs)
+        outcome_beside(alloc, asked, programs)
     }
 }
 
