@@ -1,8 +1,9 @@
 //! The report of each example: it is read, and shown again.
 use crate::stored::{GUIDE, PAGE, VOTE};
 use bstr::ByteSlice;
-use mh_look::{Part, put_report, read_report};
+use mh_look::{Part, Report, put_report, read_report};
 use mh_told::text::Text;
+use std::alloc::Global;
 
 /// What is printed of the example `clock`.
 const CLOCK: &str = r#"did 44 idle
@@ -108,21 +109,32 @@ static REPORTS: [(usize, u64, &str, &str); 7] = [
     (6, 252, "Vote", VOTE),
 ];
 
+fn frames(parts: &[Part]) -> usize {
+    let frames = parts.iter().filter(|part| matches!(part, Part::Frame(_)));
+    frames.count()
+}
+
+/// Whether the words are among what is shown of the report.
+fn shows(alloc: Global, report: &Report, words: &str) -> Option<bool> {
+    let mut text = Text::new(alloc);
+    let put = put_report(&mut text, report, true).ok();
+    put.and(Some(text.as_slice().contains_str(words.as_bytes())))
+}
+
+/// How many frames the report has, its steps, and whether the words are among what is shown of it.
+fn read(alloc: Global, printed: &str, words: &str) -> Option<(usize, u64, bool)> {
+    let report = read_report(alloc, printed.as_bytes()).ok()?;
+    let counts = (frames(report.parts.as_slice()), report.total);
+    let shows = shows(alloc, &report, words);
+    drop(report);
+    Some((counts.0, counts.1, shows?))
+}
+
 #[test]
 fn reads_the_report_of_each_example(rt: HostRuntime) {
     for (frames, total, words, printed) in &REPORTS {
-        let Ok(report) = read_report(rt.alloc(), printed.as_bytes()) else {
-            panic!(rt; "a report was not read");
-        };
-        let shown = report
-            .parts
-            .iter()
-            .filter(|part| matches!(part, Part::Frame(_)));
-        assert!(rt; shown.count() == *frames);
-        assert!(rt; report.total == *total);
-        let mut text = Text::new(rt.alloc());
-        assert!(rt; put_report(&mut text, &report, true).is_ok());
-        assert!(rt; text.as_slice().contains_str(words.as_bytes()));
+        let found = read(rt.alloc(), *printed, *words);
+        assert!(rt; found == Some((*frames, *total, true)), "{total} steps");
     }
 }
 
@@ -130,6 +142,6 @@ fn reads_the_report_of_each_example(rt: HostRuntime) {
 fn reads_no_report_that_ends_early(rt: HostRuntime) {
     for (_, _, _, printed) in &REPORTS {
         let cut = &printed.as_bytes()[..printed.len().saturating_sub(1)];
-        assert!(rt; read_report(rt.alloc(), cut).is_err());
+        assert!(rt; read_report(rt.alloc(), cut).err().is_some());
     }
 }

@@ -1,18 +1,29 @@
 //! What cannot be explained: a folder that is not there, or is none.
-use mh_look::{Failure, Outcome, done, line_of};
+use mh_look::{Failure, done, line_of};
+use std::rt::Runtime;
+
+/// Why what these words ask for is not done. None where it is, and where they ask for nothing.
+pub fn failure_of<R: Runtime + AllocGlobal>(rt: &R, words: &[&str]) -> Option<Failure> {
+    let task = line_of(rt.alloc(), words).ok()?;
+    let failure = done(rt, &task, false).err();
+    drop(task);
+    failure
+}
 
 /// Whether it is told that the folder cannot be read.
-fn is_unreadable(outcome: Result<Outcome, Failure>) -> bool {
-    matches!(outcome, Err(Failure::Unreadable(_)))
+fn is_unreadable(failure: Option<Failure>) -> bool {
+    let is_unreadable = matches!(&failure, Some(Failure::Unreadable(_)));
+    drop(failure);
+    is_unreadable
 }
 
 #[test]
 fn a_folder_that_cannot_be_listed_is_told(rt: HostRuntime) {
     for folder in ["/no/such/folder", "/dev/null"] {
         let words = ["redlook", "why", folder];
-        let Ok(task) = line_of(rt.alloc(), words.as_slice()) else {
-            panic!(rt; "not read");
-        };
-        assert!(rt; is_unreadable(done(&rt, &task, false)), "{folder}");
+        assert!(rt;
+            is_unreadable(failure_of(&rt, words.as_slice())),
+            "{folder}"
+        );
     }
 }

@@ -2,8 +2,8 @@
 //! shown.
 use bstr::ByteSlice;
 use mh_look::{
-    Adler, Crc, Difference, Report, compare, compared, frame_at, image_of, is_inked, page_of,
-    put_escaped, put_report, read_report,
+    Adler, Comparison, Crc, Difference, Part, Report, compare, compared, frame_at, image_of,
+    is_inked, page_of, put_escaped, put_report, read_report,
 };
 use mh_model::Picture;
 use mh_terminal::put_frame;
@@ -34,6 +34,38 @@ fn read(alloc: Global, text: &str) -> Option<Report> {
 
 fn contains(text: &Text, part: &[u8]) -> bool {
     text.as_slice().contains_str(part)
+}
+
+/// What is shown of a report, in colours or plainly.
+fn shown(alloc: Global, report: &str, is_plain: bool) -> Option<Text> {
+    let report = read(alloc, report)?;
+    let mut text = Text::new(alloc);
+    let put = put_report(&mut text, &report, is_plain).ok();
+    drop(report);
+    put.and(Some(text))
+}
+
+fn frame_shown(alloc: Global, parts: &[Part], number: u64) -> Option<Text> {
+    let picture = frame_at(parts, number)?;
+    let mut text = Text::new(alloc);
+    let put = put_frame(&mut text, number, picture, true).ok();
+    put.and(Some(text))
+}
+
+/// What is shown of the frame with this number, if the report has one.
+fn frame_of(alloc: Global, report: &str, number: u64) -> Option<Text> {
+    let report = read(alloc, report)?;
+    let text = frame_shown(alloc, report.parts.as_slice(), number);
+    drop(report);
+    text
+}
+
+/// The page of a report, beside its script.
+fn page(alloc: Global, report: &str, script: &[u8]) -> Option<Text> {
+    let report = read(alloc, report)?;
+    let page = page_of(alloc, &report, script).ok();
+    drop(report);
+    page
 }
 
 #[test]
@@ -91,11 +123,9 @@ fn letters_look_like_letters(rt: HostRuntime) {
 
 #[test]
 fn a_terminal_is_told_colours_only(rt: HostRuntime) {
-    let Some(report) = read(rt.alloc(), ORDERS) else {
+    let Some(text) = shown(rt.alloc(), ORDERS, false) else {
         panic!(rt; "no report");
     };
-    let mut text = Text::new(rt.alloc());
-    assert!(rt; put_report(&mut text, &report, false).is_ok());
     let row =
         "\x1b[38;2;255;255;255m\x1b[48;2;0;0;0m\u{fffd}\u{fffd}é\x1b[38;2;0;0;0m\x1b[48;2;0;0;0m ";
     assert!(rt; contains(&text, row.as_bytes()));
@@ -108,34 +138,28 @@ fn a_terminal_is_told_colours_only(rt: HostRuntime) {
 
 #[test]
 fn a_frame_is_shown_alone(rt: HostRuntime) {
-    let Some(report) = read(rt.alloc(), ONE) else {
-        panic!(rt; "no report");
-    };
-    assert!(rt; frame_at(report.parts.as_slice(), 0).is_none());
-    assert!(rt; frame_at(report.parts.as_slice(), 3).is_none());
-    let Some(picture) = frame_at(report.parts.as_slice(), 1) else {
+    assert!(rt; frame_of(rt.alloc(), ONE, 0).is_none());
+    assert!(rt; frame_of(rt.alloc(), ONE, 3).is_none());
+    let Some(text) = frame_of(rt.alloc(), ONE, 1) else {
         panic!(rt; "no frame");
     };
-    let mut text = Text::new(rt.alloc());
-    assert!(rt; put_frame(&mut text, 1, picture, true).is_ok());
     assert!(rt;
         text.as_slice().starts_with(b"frame 1\n<   ") && text.as_slice().len() == 8 + 36 * 61
     );
-    let Some(report) = read(rt.alloc(), COLOURED) else {
+}
+
+#[test]
+fn coloured_cells_are_seen_without_colours(rt: HostRuntime) {
+    let Some(text) = shown(rt.alloc(), COLOURED, true) else {
         panic!(rt; "no report");
     };
-    let mut text = Text::new(rt.alloc());
-    assert!(rt; put_report(&mut text, &report, true).is_ok());
     assert!(rt; contains(&text, "frame 1\n a\u{2591}\u{2591}  ".as_bytes()));
 }
 
 #[test]
 fn a_page_has_text_and_no_tags_of_a_report(rt: HostRuntime) {
-    let Some(report) = read(rt.alloc(), ONE) else {
-        panic!(rt; "no report");
-    };
-    let Ok(page) = page_of(rt.alloc(), &report, b"key <\nrun\n# behind\nshow\n") else {
-        panic!(rt; "no memory");
+    let Some(page) = page(rt.alloc(), ONE, b"key <\nrun\n# behind\nshow\n") else {
+        panic!(rt; "no page");
     };
     let cell =
         b"<div><span class=c style=\"color:#ffffff;background:#0000ff\">&lt;</span><span style=";
@@ -143,6 +167,10 @@ fn a_page_has_text_and_no_tags_of_a_report(rt: HostRuntime) {
     let told =
         b"<pre>&gt; key &lt;\n&gt; run\ndid 1 idle\n&gt; # behind\n&gt; show\n</pre>\n<h2>frame 1</h2>";
     assert!(rt; contains(&page, told));
+}
+
+#[test]
+fn a_text_is_escaped(rt: HostRuntime) {
     let mut text = Text::new(rt.alloc());
     assert!(rt; put_escaped(&mut text, b"<a b=\"c\" d='&'>").is_ok());
     assert!(rt; text.as_slice() == b"&lt;a b=&quot;c&quot; d=&#39;&amp;&#39;&gt;".as_slice());
@@ -174,10 +202,12 @@ static DIFFERENCES: &[(&str, &str, bool, &str)] = &[
 
 /// What is said of two reports, and whether they differ.
 fn said(alloc: Global, first: &str, second: &str, lines: bool) -> Option<(Text, bool)> {
-    let first = read(alloc, first)?;
-    let second = read(alloc, second)?;
-    let comparison = compared(alloc, &first, &second, lines).ok()?;
-    Some((comparison.text, comparison.differs))
+    let (first, second) = read(alloc, first).zip(read(alloc, second))?;
+    let compared = compared(alloc, &first, &second, lines);
+    drop(first);
+    drop(second);
+    let Comparison { text, differs } = compared.ok()?;
+    Some((text, differs))
 }
 
 #[test]
@@ -194,13 +224,19 @@ fn differences_are_told(rt: HostRuntime) {
     }
 }
 
+/// Where two reports differ first.
+fn first_difference(alloc: Global, first: &str, second: &str) -> Option<Difference> {
+    let (first, second) = read(alloc, first).zip(read(alloc, second))?;
+    let found = compare(first.parts.as_slice(), second.parts.as_slice());
+    drop(first);
+    drop(second);
+    Some(found)
+}
+
 #[test]
 fn the_first_difference_is_found(rt: HostRuntime) {
-    let (Some(one), Some(other)) = (read(rt.alloc(), ONE), read(rt.alloc(), OTHER)) else {
-        panic!(rt; "no report");
-    };
-    let same = compare(one.parts.as_slice(), one.parts.as_slice());
-    assert!(rt; matches!(same, Difference::Nowhere(2)));
-    let found = compare(one.parts.as_slice(), other.parts.as_slice());
-    assert!(rt; matches!(found, Difference::At(1, 2159)));
+    let same = first_difference(rt.alloc(), ONE, ONE);
+    assert!(rt; matches!(same, Some(Difference::Nowhere(2))));
+    let found = first_difference(rt.alloc(), ONE, OTHER);
+    assert!(rt; matches!(found, Some(Difference::At(1, 2159))));
 }

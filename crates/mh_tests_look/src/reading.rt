@@ -1,13 +1,17 @@
 //! Small reports, and what is no report.
 use crate::examples::FIRST;
 use mh_look::{Part, ReadError, Report, read_report};
-use mh_model::{FaultKind, Rest};
+use mh_model::{Fault, FaultKind, Picture, Rest};
 use std::alloc::Global;
 
 /// How many parts a report has, and the steps in all; else the line that is no report's, or 0.
 fn outcome(alloc: Global, text: &str) -> Result<(usize, u64), usize> {
     match read_report(alloc, text.as_bytes()) {
-        Ok(report) => Ok((report.parts.len(), report.total)),
+        Ok(report) => {
+            let found = (report.parts.len(), report.total);
+            drop(report);
+            Ok(found)
+        }
         Err(ReadError::Line(line)) => Err(line),
         Err(ReadError::NoMemory) => Err(0),
     }
@@ -90,43 +94,74 @@ fn read(alloc: Global, text: &str) -> Option<Report> {
     read_report(alloc, text.as_bytes()).ok()
 }
 
-#[test]
-fn tells_what_happened(rt: HostRuntime) {
-    let text = "fault kind Move a b/c 7\nrefused 12\ndid 3 more\ntotal 4\n";
-    let Some(report) = read(rt.alloc(), text) else {
-        panic!(rt; "no report");
-    };
-    let [
-        Part::Fault(fault),
-        Part::Refused(why),
-        Part::Did(steps, rest),
-    ] = report.parts.as_slice()
-    else {
-        panic!(rt; "other parts");
-    };
-    assert!(rt; fault.what == FaultKind::WrongKind);
-    assert!(rt; fault.action.word() == b"Move".as_slice());
-    assert!(rt; fault.at.group.as_bytes() == b"a b/c".as_slice());
-    assert!(rt; fault.at.number == 7);
-    assert!(rt; *why == 12 && *steps == 3 && *rest == Rest::More);
+/// A fault, a refusal and steps.
+const EVENTS: &str = "fault kind Move a b/c 7\nrefused 12\ndid 3 more\ntotal 4\n";
+
+fn is_fault(fault: &Fault) -> bool {
+    fault.what == FaultKind::WrongKind
+        && fault.action.word() == b"Move".as_slice()
+        && fault.at.group.as_bytes() == b"a b/c".as_slice()
+        && fault.at.number == 7
+}
+
+fn are_events(parts: &[Part]) -> bool {
+    match parts {
+        [
+            Part::Fault(fault),
+            Part::Refused(why),
+            Part::Did(steps, rest),
+        ] => is_fault(fault) && *why == 12 && *steps == 3 && *rest == Rest::More,
+        _ => false,
+    }
+}
+
+/// Whether the parts are those that are written.
+fn tells_events(alloc: Global) -> Option<bool> {
+    let report = read(alloc, EVENTS)?;
+    let told = are_events(report.parts.as_slice());
+    drop(report);
+    Some(told)
 }
 
 #[test]
-fn keeps_the_rows_of_the_frame_before(rt: HostRuntime) {
-    let text = r#"frame 1
+fn tells_what_happened(rt: HostRuntime) {
+    assert!(rt; tells_events(rt.alloc()) == Some(true));
+}
+
+/// Two frames: the second one has a row of its own, and that of the first.
+const FRAMES: &str = r#"frame 1
 row 01: 2-3 010203/ff0000 "é"
 frame 2
 row 02: 0-0 000000/00ff00 ""
 total 0
 "#;
-    let Some(report) = read(rt.alloc(), text) else {
-        panic!(rt; "no report");
-    };
-    let [Part::Frame(_), Part::Frame(picture)] = report.parts.as_slice() else {
-        panic!(rt; "other parts");
-    };
+
+fn is_second(picture: &Picture) -> bool {
     let cell = picture.cell(62);
-    assert!(rt; cell.scalar == 233 && cell.fore == 0x01_02_03 && cell.back == 0xff_00_00);
-    assert!(rt; picture.cell(63).scalar == 32 && picture.cell(64).back == 0);
-    assert!(rt; picture.cell(120).back == 0x00_ff_00);
+    cell.scalar == 233
+        && cell.fore == 0x01_02_03
+        && cell.back == 0xff_00_00
+        && picture.cell(63).scalar == 32
+        && picture.cell(64).back == 0
+        && picture.cell(120).back == 0x00_ff_00
+}
+
+fn are_frames(parts: &[Part]) -> bool {
+    match parts {
+        [Part::Frame(_), Part::Frame(picture)] => is_second(picture),
+        _ => false,
+    }
+}
+
+/// Whether the rows of the first frame stand in the second, too.
+fn keeps_rows(alloc: Global) -> Option<bool> {
+    let report = read(alloc, FRAMES)?;
+    let kept = are_frames(report.parts.as_slice());
+    drop(report);
+    Some(kept)
+}
+
+#[test]
+fn keeps_the_rows_of_the_frame_before(rt: HostRuntime) {
+    assert!(rt; keeps_rows(rt.alloc()) == Some(true));
 }

@@ -1,12 +1,15 @@
 //! What `lint` refuses before it reads a file: the name of a rule that there is none of.
-use mh_look::{Failure, Outcome, done, line_of};
+use crate::folders::failure_of;
+use mh_look::Failure;
 
 /// Whether it is told, with status 2, that no rule has this name, with rules that begin so.
-fn is_told(outcome: &Result<Outcome, Failure>, name: &str, begins: &str) -> bool {
-    match outcome {
-        Err(failure) => failure.exit().code() == 2 && names(failure, name, begins),
-        Ok(_) => false,
-    }
+fn is_told(failure: Option<Failure>, name: &str, begins: &str) -> bool {
+    let is_told = match &failure {
+        Some(failure) => failure.exit().code() == 2 && names(failure, name, begins),
+        None => false,
+    };
+    drop(failure);
+    is_told
 }
 
 fn names(failure: &Failure, name: &str, begins: &str) -> bool {
@@ -26,9 +29,7 @@ fn a_rule_that_there_is_none_of_is_told(rt: HostRuntime) {
         ("zzzzzzzz", "editor-backup, identifier-differs, "),
     ] {
         let words = ["redlook", "lint", "/no/such/folder", "--allow", name];
-        let Ok(task) = line_of(rt.alloc(), words.as_slice()) else {
-            panic!(rt; "not read");
-        };
-        assert!(rt; is_told(&done(&rt, &task, false), name, begins), "{name}");
+        let failure = failure_of(&rt, words.as_slice());
+        assert!(rt; is_told(failure, name, begins), "{name}");
     }
 }

@@ -13,10 +13,10 @@ pub fn reading(alloc: Global, octets: &[u8]) -> Option<Vec<u8>> {
 
 /// The same under a table of tags.
 pub fn reading_by(alloc: Global, tags: &TagTable, octets: &[u8]) -> Option<Vec<u8>> {
-    match decode_group(alloc, tags, octets) {
-        Ok(_) => said(alloc, b"read"),
-        Err(CodecError::At { why, offset }) => placed(alloc, why.number(), offset),
-        Err(CodecError::NoMemory) => None,
+    match decode_group(alloc, tags, octets).err() {
+        None => said(alloc, b"read"),
+        Some(CodecError::At { why, offset }) => placed(alloc, why.number(), offset),
+        Some(CodecError::NoMemory) => None,
     }
 }
 

@@ -51,12 +51,23 @@ fn links_told(alloc: Global, links: &[Link]) -> Option<Vec<u8>> {
     Some(told)
 }
 
-/// The chain, if the flow has the reference, else that it has not.
 fn told(alloc: Global, service: &Service, asked: &str) -> Option<Vec<u8>> {
-    let config = config(alloc, word(asked, 1))?;
-    let holder = reference(alloc, word(asked, 2), word(asked, 3))?;
-    let at = reference(alloc, word(asked, 4), word(asked, 5))?;
-    let (held, links) = traced(alloc, &Equipped::new(service, &[]), &config, &holder, &at)?;
+    let config = config(alloc, word(asked, 1));
+    let holder = reference(alloc, word(asked, 2), word(asked, 3));
+    let at = reference(alloc, word(asked, 4), word(asked, 5));
+    let (config, (holder, at)) = config.zip(holder.zip(at))?;
+    chain_of(alloc, &Equipped::new(service, &[]), &config, &holder, &at)
+}
+
+/// The chain, if the flow has the reference, else that it has not.
+fn chain_of(
+    alloc: Global,
+    whole: &Equipped<'_>,
+    config: &Config,
+    holder: &ObjRef,
+    at: &ObjRef,
+) -> Option<Vec<u8>> {
+    let (held, links) = traced(alloc, whole, config, holder, at)?;
     chain_told(alloc, held, links)
 }
 

@@ -6,22 +6,24 @@ use crate::cases::all_hold;
 use crate::judging::chains::{config, group, reference};
 use crate::judging::claims::tables::{BROUGHT, CHANGED, WRITTEN};
 use crate::machine::service::Asked;
-use mh_base::{Seq, Value};
+use mh_base::{ObjRef, Seq, Value};
 use mh_cases::{number, word};
 use mh_flow::Link;
 use mh_group::ActionName;
 use mh_layers::{Arrow, By};
+use mh_model::Config;
 use mh_service::Service;
 use mh_verify::{Place, Refusal, RefusalKind};
 use std::alloc::Global;
+use std::mem::replace;
 
-/// All members but the one at this place.
-fn without<T: Drop>(members: Seq<T>, at: usize) -> Seq<T> {
-    let mut members = members.into_vec();
-    if at < members.len() {
-        members.remove(at);
+/// Takes the member at this place out.
+fn take_out<T: Drop>(alloc: Global, members: &mut Seq<T>, at: usize) {
+    let mut left = replace(members, Seq::new(alloc)).into_vec();
+    if at < left.len() {
+        left.remove(at);
     }
-    Seq::from_vec(members)
+    *members = Seq::from_vec(left);
 }
 
 /// Changes what an arrow says in one word: the data of its event, the scene, what it grants, the number of its action, the
@@ -42,52 +44,30 @@ fn bend(alloc: Global, arrow: &mut Arrow, how: &str) {
     }
 }
 
-/// The arrows, with the one at this place changed.
-fn bent(alloc: Global, arrows: Seq<Arrow>, at: usize, how: &str) -> Seq<Arrow> {
-    let mut arrows = arrows.into_vec();
-    if let Some(arrow) = arrows.get_mut(at) {
+/// Changes the arrow at this place.
+fn bend_at(alloc: Global, arrows: &mut Seq<Arrow>, at: usize, how: &str) {
+    let mut bent = replace(arrows, Seq::new(alloc)).into_vec();
+    if let Some(arrow) = bent.get_mut(at) {
         bend(alloc, arrow, how);
     }
-    Seq::from_vec(arrows)
+    *arrows = Seq::from_vec(bent);
 }
 
-/// The refusal with a link taken out of its chain (`link`), an arrow out of its cycle (`arrow`), or an arrow changed.
-fn changed(alloc: Global, refusal: Refusal, how: &str, at: usize) -> Refusal {
-    let Refusal {
-        kind,
-        place,
-        action,
-        config,
-        object,
-        chain,
-        cycle,
-        service,
-    } = refusal;
-    let (chain, cycle) = match how {
-        "link" => (without(chain, at), cycle),
-        "arrow" => (chain, without(cycle, at)),
-        _ => (chain, bent(alloc, cycle, at, how)),
-    };
-    Refusal {
-        kind,
-        place,
-        action,
-        config,
-        object,
-        chain,
-        cycle,
-        service,
-    }
-}
-
-/// The refusal, changed as the question says: `changed HOW AT`.
-pub fn changed_as(alloc: Global, refusal: Refusal, asked: &str) -> Option<Refusal> {
+/// Changes the refusal as the question says, `changed HOW AT`: a link is taken out of its chain (`link`), an arrow out of its
+/// cycle (`arrow`), or an arrow is changed.
+pub fn change(alloc: Global, refusal: &mut Refusal, asked: &str) -> Option<()> {
     let at = number(asked, 2)? as usize;
-    Some(changed(alloc, refusal, word(asked, 1), at))
+    match word(asked, 1) {
+        "link" => take_out(alloc, &mut refusal.chain, at),
+        "arrow" => take_out(alloc, &mut refusal.cycle, at),
+        how => bend_at(alloc, &mut refusal.cycle, at, how),
+    }
+    Some(())
 }
 
-fn kind(number: u32) -> Option<RefusalKind> {
-    match number {
+/// The kind of the refusal, by its number.
+fn kind(asked: &str) -> Option<RefusalKind> {
+    match number(asked, 1)? {
         0 => Some(RefusalKind::NoMemory),
         1 => Some(RefusalKind::AbsentObject),
         2 => Some(RefusalKind::WrongClass),
@@ -131,14 +111,20 @@ fn links(alloc: Global, asked: &str) -> Option<Seq<Link>> {
     Some(Seq::from_vec(links))
 }
 
+/// The place and the configuration of a refusal, its reference, and its chain.
+type ClaimedParts = ((Place, Config), (ObjRef, Seq<Link>));
+
+fn parts(alloc: Global, asked: &str) -> Option<ClaimedParts> {
+    let where_it_is = place(alloc, asked).zip(config(alloc, word(asked, 6)));
+    let object = reference(alloc, word(asked, 7), word(asked, 8));
+    where_it_is.zip(object.zip(links(alloc, asked)))
+}
+
 /// The refusal that is written so: `claimed KIND GROUP OBJECT INDEX ACTION SCENE GROUP OBJECT`, its place, its action or
 /// `-`, its scene or `-`, and the reference; and for each link ` by GROUP OBJECT INDEX GROUP OBJECT`.
 pub fn claimed(alloc: Global, service: Service, asked: &str) -> Option<Refusal> {
-    let kind = kind(number(asked, 1)?)?;
-    let where_it_is = place(alloc, asked).zip(config(alloc, word(asked, 6)));
-    let object = reference(alloc, word(asked, 7), word(asked, 8));
-    let parts = where_it_is.zip(object.zip(links(alloc, asked)));
-    let ((place, config), (object, chain)) = parts?;
+    let claimed = kind(asked).zip(parts(alloc, asked)).zip(Some(service));
+    let ((kind, ((place, config), (object, chain))), service) = claimed?;
     Some(Refusal {
         kind,
         place: Some(place),

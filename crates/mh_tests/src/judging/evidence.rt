@@ -2,7 +2,7 @@
 //! (`docs/EVIDENCE.md`) shows, as it stands there.
 use crate::cases::all_hold;
 use crate::judging::arrows::arrows_told;
-use crate::judging::claims::{changed_as, claimed};
+use crate::judging::claims::{change, claimed};
 use crate::machine::service::Asked;
 use mh_cases::{said, word};
 use mh_evidence::evidence_holds;
@@ -23,26 +23,48 @@ fn told(alloc: Global, refusal: &Refusal) -> Option<Vec<u8>> {
 
 /// That the service is accepted; or the number of its refusal, and whether that shows what it says.
 fn judged(alloc: Global, service: Service) -> Option<Vec<u8>> {
-    match verify(alloc, service, &[]) {
-        Ok(_) => Vec::from_slice(alloc, b"accepted").ok(),
-        Err(refusal) => told(alloc, &refusal),
-    }
+    let refused = verify(alloc, service, &[]).err();
+    let judged = match &refused {
+        None => Vec::from_slice(alloc, b"accepted").ok(),
+        Some(refusal) => told(alloc, refusal),
+    };
+    drop(refused);
+    judged
 }
 
 /// The arrows of the refusal, and whether it shows what it says.
 fn with_arrows(alloc: Global, refusal: &Refusal) -> Option<Vec<u8>> {
     let arrows = arrows_told(alloc, refusal.cycle.as_slice());
     let (mut lines, shown) = arrows.zip(told(alloc, refusal))?;
-    lines.extend_from_slice(shown.as_slice()).ok()?;
-    Some(lines)
+    let put = lines.extend_from_slice(shown.as_slice()).ok();
+    put.and(Some(lines))
 }
 
-/// What is answered of a refusal: its arrows, or whether it shows what it says once it is changed.
-fn of_refusal(alloc: Global, refusal: Refusal, asked: &str) -> Option<Vec<u8>> {
-    if word(asked, 0) == "arrows" {
-        return with_arrows(alloc, &refusal);
+/// What is asked about. Its owner below is generic, since a function that owns a refusal by name is dear to prove.
+trait Evident {
+    /// The arrows of a refusal (`arrows`), and whether it shows what it says, once it is changed where that is asked
+    /// (`changed`).
+    fn answer(&mut self, alloc: Global, asked: &str) -> Option<Vec<u8>>;
+}
+
+impl Evident for Refusal {
+    fn answer(&mut self, alloc: Global, asked: &str) -> Option<Vec<u8>> {
+        match word(asked, 0) {
+            "arrows" => with_arrows(alloc, self),
+            "changed" => change(alloc, self, asked).and(told(alloc, self)),
+            _ => told(alloc, self),
+        }
     }
-    told(alloc, &changed_as(alloc, refusal, asked)?)
+}
+
+/// What is answered of a refusal; none where nothing is refused.
+fn of_refusal<R: Evident + Drop>(
+    alloc: Global,
+    refused: Option<R>,
+    asked: &str,
+) -> Option<Vec<u8>> {
+    let mut refused = refused;
+    refused.as_mut()?.answer(alloc, asked)
 }
 
 /// What is answered of a service: of its verdict (`holds`), of its refusal (`arrows`, `changed`), or of a refusal that is
@@ -50,11 +72,8 @@ fn of_refusal(alloc: Global, refusal: Refusal, asked: &str) -> Option<Vec<u8>> {
 pub fn of_evidence(alloc: Global, service: Service, asked: &str) -> Option<Vec<u8>> {
     match word(asked, 0) {
         "holds" => judged(alloc, service),
-        "claimed" => told(alloc, &claimed(alloc, service, asked)?),
-        _ => match verify(alloc, service, &[]) {
-            Ok(_) => said(alloc, b"accepted"),
-            Err(refusal) => of_refusal(alloc, refusal, asked),
-        },
+        "claimed" => of_refusal(alloc, claimed(alloc, service, asked), asked),
+        _ => of_refusal(alloc, verify(alloc, service, &[]).err(), asked),
     }
 }
 

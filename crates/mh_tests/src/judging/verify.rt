@@ -13,20 +13,30 @@ fn starts_with_a(service: &Service) -> bool {
 /// Whether an accepted service is taken apart and put together again.
 fn comes_together(accepted: Accepted) -> bool {
     let (service, rest) = accepted.apart();
-    starts_with_a(rest.join(service).service())
+    let joined = rest.join(service);
+    let is_kept = starts_with_a(joined.service());
+    drop(joined);
+    is_kept
 }
 
 /// Whether the service is handed back.
-fn is_handed_back(refusal: &Refusal) -> bool {
-    refusal.kind == RefusalKind::AbsentObject && starts_with_a(&refusal.service)
+fn is_handed_back(refusal: Refusal) -> bool {
+    let is_back = refusal.kind == RefusalKind::AbsentObject && starts_with_a(&refusal.service);
+    drop(refusal);
+    is_back
 }
 
 /// Whether the service is accepted and kept, or refused and handed back.
-pub fn verdict(alloc: Global, service: Service) -> Option<Vec<u8>> {
-    let (word, is_kept) = match verify(alloc, service, &[]) {
+fn kept_in(verdict: Result<Accepted, Refusal>) -> (&'static str, bool) {
+    match verdict {
         Ok(accepted) => ("accepted", comes_together(accepted)),
-        Err(refusal) => ("refused", is_handed_back(&refusal)),
-    };
+        Err(refusal) => ("refused", is_handed_back(refusal)),
+    }
+}
+
+/// The verdict on the service, where that is kept or handed back.
+pub fn verdict(alloc: Global, service: Service) -> Option<Vec<u8>> {
+    let (word, is_kept) = kept_in(verify(alloc, service, &[]));
     if is_kept {
         said(alloc, word.as_bytes())
     } else {

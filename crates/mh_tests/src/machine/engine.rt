@@ -1,12 +1,11 @@
 //! The engine: what it answers when there is nothing to do, when too many inputs wait, and when the clock
 //! is full.
 use crate::cases::all_hold;
-use crate::machine::files::{number_if, refusals};
+use crate::machine::files::{key, refusals, tick};
 use crate::machine::service::Asked;
 use crate::playing::DAY;
 use mh_engine::{Engine, Rest, Stepped};
 use mh_machine::Machine;
-use mh_model::{Input, Key};
 use mh_service::Service;
 use std::alloc::Global;
 
@@ -30,21 +29,10 @@ fn idle(alloc: Global, engine: &mut Engine) -> Option<Vec<u8>> {
     }
 }
 
-/// The number of the refusal of a key, which is handed back; 0 where it is taken.
-fn refusal_of_key(engine: &mut Engine) -> Option<u32> {
-    match engine.post(Input::Key(Key::Red)) {
-        Ok(()) => Some(0),
-        Err(refused) => {
-            let is_back = matches!(&refused.input, Input::Key(Key::Red));
-            number_if(is_back, refused.why)
-        }
-    }
-}
-
 /// How many keys wait when one more is not taken.
 fn keys_to_refusal(engine: &mut Engine) -> u32 {
     for waiting in 0..1000 {
-        if refusal_of_key(engine) != Some(0) {
+        if key(engine) != Some(0) {
             return waiting;
         }
     }
@@ -54,13 +42,13 @@ fn keys_to_refusal(engine: &mut Engine) -> u32 {
 /// How many keys wait when one more is not taken, and the number of its refusal.
 fn keys(alloc: Global, engine: &mut Engine) -> Option<Vec<u8>> {
     let waiting = keys_to_refusal(engine);
-    let number = refusal_of_key(engine)?;
+    let number = key(engine)?;
     Some(format!(in alloc; "{waiting} {number}").ok()?.into_bytes())
 }
 
 /// Whether a tick is posted and taken.
 fn takes_tick(engine: &mut Engine, length: u32) -> bool {
-    engine.post(Input::Tick(length)).is_ok() && matches!(engine.step(), Ok(Stepped::Did))
+    tick(engine, length) == Some(0) && matches!(engine.step(), Ok(Stepped::Did))
 }
 
 /// How many of the longest ticks are taken before one is not.
@@ -73,21 +61,13 @@ fn ticks_to_refusal(engine: &mut Engine) -> u32 {
     100_000
 }
 
-/// The number of the refusal of a tick; 0 where it is taken.
-fn refusal_of_tick(engine: &mut Engine, length: u32) -> Option<u32> {
-    match engine.post(Input::Tick(length)) {
-        Ok(()) => Some(0),
-        Err(refused) => refused.why.number(),
-    }
-}
-
 /// How many of the longest ticks are taken, and what is then said of a tick that is too long by a
 /// millisecond, of one that leads to the last moment, and of one behind it.
 fn ticks(alloc: Global, engine: &mut Engine) -> Option<Vec<u8>> {
     let taken = ticks_to_refusal(engine);
-    let past = refusal_of_tick(engine, 47_296)?;
-    let last = refusal_of_tick(engine, 47_295)?;
-    let behind = refusal_of_tick(engine, 1)?;
+    let past = tick(engine, 47_296)?;
+    let last = tick(engine, 47_295)?;
+    let behind = tick(engine, 1)?;
     let said = format!(in alloc; "{taken} {past} {last} {behind}").ok()?;
     Some(said.into_bytes())
 }

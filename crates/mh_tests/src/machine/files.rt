@@ -63,15 +63,26 @@ fn is_file(file: &File, name: &str, length: usize) -> bool {
 }
 
 /// The number of the refusal, if what was refused is handed back.
-pub fn number_if(is_back: bool, why: RefusedWhy) -> Option<u32> {
+fn number_if(is_back: bool, why: RefusedWhy) -> Option<u32> {
     if is_back { why.number() } else { None }
+}
+
+/// The number of the refusal, which is let go, if the input is handed back.
+fn number_of(refused: Refused, is_back: bool) -> Option<u32> {
+    let number = number_if(is_back, refused.why);
+    drop(refused);
+    number
 }
 
 /// The number of the refusal where the file is preset, which is then handed back; 0 where it is taken.
 fn preset<T: Taking>(alloc: Global, taker: &mut T, name: &str, length: usize) -> Option<u32> {
     match taker.take_file(content_file(alloc, name, length)?) {
         Ok(()) => Some(0),
-        Err(refused) => number_if(is_file(&refused.file, name, length), refused.why),
+        Err(refused) => {
+            let number = number_if(is_file(&refused.file, name, length), refused.why);
+            drop(refused);
+            number
+        }
     }
 }
 
@@ -86,47 +97,67 @@ fn is_arrival(input: &Input, name: &str, length: usize) -> bool {
 fn post<T: Taking>(alloc: Global, taker: &mut T, name: &str, length: usize) -> Option<u32> {
     match taker.take_input(Input::Arrive(content_file(alloc, name, length)?)) {
         Ok(()) => Some(0),
-        Err(refused) => number_if(is_arrival(&refused.input, name, length), refused.why),
+        Err(refused) => {
+            let is_back = is_arrival(&refused.input, name, length);
+            number_of(refused, is_back)
+        }
     }
 }
 
+/// Presets a file, or posts it and takes it from the queue at once; the number of the refusal.
+fn take<T: Taking>(alloc: Global, taker: &mut T, posts: bool, name: &str) -> Option<u32> {
+    if !posts {
+        return preset(alloc, taker, name, 1);
+    }
+    let number = post(alloc, taker, name, 1);
+    if number == Some(0) {
+        taker.make_steps(1)?;
+    }
+    number
+}
+
 /// Presets or posts files of the names `f0`, `f1`, .. , until so many were taken or one is refused; the
-/// number of the refusal. Posted files are taken from the queue at once.
+/// number of the refusal.
 fn many<T: Taking>(alloc: Global, taker: &mut T, posts: bool, count: u32) -> Option<u32> {
     for at in 0..count {
         let name = format!(in alloc; "f{at}").ok()?;
-        let number = if posts {
-            post(alloc, taker, name.as_str(), 1)
-        } else {
-            preset(alloc, taker, name.as_str(), 1)
-        };
+        let number = take(alloc, taker, posts, name.as_str());
         if number != Some(0) {
             return number;
-        }
-        if posts {
-            taker.make_steps(1)?;
         }
     }
     Some(0)
 }
 
+/// The number of the refusal of a key, which is then handed back; 0 where it is taken.
+pub fn key<T: Taking>(taker: &mut T) -> Option<u32> {
+    match taker.take_input(Input::Key(Key::Red)) {
+        Ok(()) => Some(0),
+        Err(refused) => {
+            let is_back = matches!(&refused.input, Input::Key(Key::Red));
+            number_of(refused, is_back)
+        }
+    }
+}
+
 /// Posts so many keys; the number of the first refusal.
 fn keys<T: Taking>(taker: &mut T, count: u32) -> Option<u32> {
     for _ in 0..count {
-        if let Err(refused) = taker.take_input(Input::Key(Key::Red)) {
-            return refused.why.number();
+        let number = key(taker);
+        if number != Some(0) {
+            return number;
         }
     }
     Some(0)
 }
 
 /// The number of the refusal of a tick, which is then handed back; 0 where it is taken.
-fn tick<T: Taking>(taker: &mut T, length: u32) -> Option<u32> {
+pub fn tick<T: Taking>(taker: &mut T, length: u32) -> Option<u32> {
     match taker.take_input(Input::Tick(length)) {
         Ok(()) => Some(0),
         Err(refused) => {
             let is_back = matches!(&refused.input, Input::Tick(back) if *back == length);
-            number_if(is_back, refused.why)
+            number_of(refused, is_back)
         }
     }
 }

@@ -63,7 +63,9 @@ impl Question for PlayRecorded {
 fn recorded(alloc: Global, live: Live, reads: &str) -> Option<Vec<u8>> {
     let mut live = live;
     let played = play(alloc, &mut live, reads);
-    played.and(said(alloc, live.script()))
+    let script = said(alloc, live.script());
+    drop(live);
+    played.and(script)
 }
 
 /// Each read behind so many milliseconds; and what is shown is drawn once.

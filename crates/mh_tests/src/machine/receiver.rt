@@ -56,11 +56,25 @@ impl Resident for Doubling {
     }
 }
 
+impl Doubling {
+    fn new(alloc: Global) -> Option<Doubling> {
+        let signature = signature(alloc, b"DBL").ok()?;
+        Some(Doubling { alloc, signature })
+    }
+}
+
 /// One that always fails.
 #[derive(Drop)]
 struct Failing {
     signature: Signature,
     ghost its_own: { signature ≡ numbers (codes "NOT") },
+}
+
+impl Failing {
+    fn new(alloc: Global) -> Option<Failing> {
+        let signature = signature(alloc, b"NOT").ok()?;
+        Some(Failing { signature })
+    }
 }
 
 impl Resident for Failing {
@@ -145,11 +159,32 @@ fn outcome<P: Resident>(
 }
 
 /// The service, verified beside these programs.
-fn verified(alloc: Global, asked: &str, programs: &[Box<dyn Resident>]) -> Option<Accepted> {
+fn verified<P: Resident>(alloc: Global, asked: &str, programs: &[P]) -> Option<Accepted> {
     let program = if word(asked, 1) == "DBL" { "1" } else { "2" };
     let known = signatures_of(alloc, programs).ok();
     let (service, known) = service(alloc, program, word(asked, 2)).zip(known)?;
     verify(alloc, service, known.as_slice()).ok()
+}
+
+/// The programs that the receiver has in the end.
+fn arranged<P: Drop>(asked: &str, programs: Vec<P>) -> Vec<P> {
+    let mut programs = programs;
+    match word(asked, 0) {
+        "turned" => programs.reverse(),
+        "one" => programs.truncate(1),
+        _ => {}
+    }
+    programs
+}
+
+/// What comes of the service, which was verified beside all of these programs.
+fn outcome_beside<P: Resident>(alloc: Global, asked: &str, programs: Vec<P>) -> Option<Vec<u8>> {
+    let accepted = verified(alloc, asked, programs.as_slice());
+    let (accepted, programs) = accepted.zip(Some(arranged(asked, programs)))?;
+    let mut started = Receiver::start(alloc, accepted, programs, DAY);
+    let told = outcome(alloc, &mut started);
+    drop(started);
+    told
 }
 
 /// Which programs there are, the one that is called, and a number.
@@ -158,27 +193,11 @@ struct Beside;
 impl Question for Beside {
     fn answer(alloc: Global, asked: &str, _: &[u8]) -> Option<Vec<u8>> {
         let mut programs: Vec<Box<dyn Resident>> = Vec::new(alloc);
-        let named = signature(alloc, b"DBL").ok()?;
-        let doubling: Box<dyn Resident> = Box::new(
-            alloc,
-            Doubling {
-                alloc,
-                signature: named,
-            },
-        )
-        .ok()?;
+        let doubling: Box<dyn Resident> = Box::new(alloc, Doubling::new(alloc)?).ok()?;
         programs.push(doubling).ok()?;
-        let named = signature(alloc, b"NOT").ok()?;
-        let failing: Box<dyn Resident> = Box::new(alloc, Failing { signature: named }).ok()?;
+        let failing: Box<dyn Resident> = Box::new(alloc, Failing::new(alloc)?).ok()?;
         programs.push(failing).ok()?;
-        let accepted = verified(alloc, asked, programs.as_slice())?;
-        match word(asked, 0) {
-            "turned" => programs.reverse(),
-            "one" => programs.truncate(1),
-            _ => {}
-        }
-        let mut started = Receiver::start(alloc, accepted, programs, DAY);
-        outcome(alloc, &mut started)
+        outcome_beside(alloc, asked, programs)
     }
 }
 

@@ -13,16 +13,25 @@ use mh_cases::{Named, Question, add_named, said, word};
 use mh_service::{Service, ServiceError};
 use std::alloc::Global;
 
+/// What is answered of a service that is only looked at, and let go then.
+fn looked_at(alloc: Global, service: Service, asked: &str) -> Option<Vec<u8>> {
+    let told = match word(asked, 0) {
+        "made" => said(alloc, b"made"),
+        "held" | "reached" => of_flow(alloc, &service, asked),
+        _ => inside(alloc, &service, asked),
+    };
+    drop(service);
+    told
+}
+
 /// What is answered of a service that was made.
 fn of_service(alloc: Global, service: Service, asked: &str) -> Option<Vec<u8>> {
     match word(asked, 0) {
-        "made" => said(alloc, b"made"),
         "verdict" => verdict(alloc, service),
         "holds" | "arrows" | "changed" | "claimed" => of_evidence(alloc, service, asked),
         "idle" | "keys" | "ticks" | "files" => of_engine(alloc, service, asked),
         "machine" => of_machine(alloc, service, asked),
-        "held" | "reached" => of_flow(alloc, &service, asked),
-        _ => inside(alloc, &service, asked),
+        _ => looked_at(alloc, service, asked),
     }
 }
 

@@ -130,7 +130,9 @@ fn of_receiver<P: Resident>(
 fn of_waiting(alloc: Global) -> Option<Text> {
     let (service, programs) = service(alloc, "waiting").zip(programs(alloc))?;
     let mut started = Receiver::start_lenient(alloc, service, programs, DAY);
-    of_receiver(alloc, &mut started)
+    let told = of_receiver(alloc, &mut started);
+    drop(started);
+    told
 }
 
 #[test]

@@ -26,8 +26,8 @@ fn is_group(tags: &TagTable, source: &Source) -> bool {
 
 /// The group of a file, in the notation in which it begins, under the name of the file.
 fn named(alloc: Global, tags: &TagTable, source: &Source) -> Option<(GroupName, Group)> {
-    let group = group(alloc, tags, source.1.as_slice())?;
-    Some((source.0.clone().ok()?, group))
+    let name = source.0.clone().ok();
+    name.zip(group(alloc, tags, source.1.as_slice()))
 }
 
 fn group(alloc: Global, tags: &TagTable, bytes: &[u8]) -> Option<Group> {
@@ -59,6 +59,7 @@ fn start(alloc: Global, tags: &TagTable, sources: &[Source]) -> Option<Engine> {
 fn longest(alloc: Global, tags: &TagTable, sources: &[Source]) -> Option<Vec<u8>> {
     let accepted = verify(alloc, service(alloc, tags, sources)?, &[]).ok()?;
     let bounds = accepted.bounds();
+    drop(accepted);
     let (start, key, tick) = (bounds.start, bounds.key, bounds.tick);
     let line = format!(in alloc; "start {start} key {key} tick {tick}\n").ok()?;
     Some(line.into_bytes())
@@ -220,15 +221,13 @@ fn first(alloc: Global) -> Option<Vec<Source>> {
 }
 
 fn screens(alloc: Global) -> Option<Vec<u8>> {
-    let sources = first(alloc)?;
-    let tags = TagTable::profile(alloc).ok()?;
+    let (sources, tags) = first(alloc).zip(TagTable::profile(alloc).ok())?;
     let sources = sources.as_slice();
     of_played(alloc, &tags, start(alloc, &tags, sources), sources)
 }
 
 fn late_screens(alloc: Global) -> Option<Vec<u8>> {
-    let sources = first(alloc)?;
-    let tags = TagTable::profile(alloc).ok()?;
+    let (sources, tags) = first(alloc).zip(TagTable::profile(alloc).ok())?;
     let sources = sources.as_slice();
     let scene = sources.get(1)?;
     of_late(
@@ -240,8 +239,8 @@ fn late_screens(alloc: Global) -> Option<Vec<u8>> {
 }
 
 fn told(alloc: Global) -> Option<Vec<u8>> {
-    let sources = first(alloc)?;
-    longest(alloc, &TagTable::profile(alloc).ok()?, sources.as_slice())
+    let (sources, tags) = first(alloc).zip(TagTable::profile(alloc).ok())?;
+    longest(alloc, &tags, sources.as_slice())
 }
 
 #[test]

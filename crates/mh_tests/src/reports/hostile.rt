@@ -107,10 +107,10 @@ fn refused(alloc: Global, tags: &TagTable, bytes: &[u8]) -> (u32, usize) {
     if !mh_codec::begins_group(tags, bytes) {
         return refusal(alloc, bytes);
     }
-    match decode_group(alloc, tags, bytes) {
-        Ok(_) => (0, 0),
-        Err(CodecError::At { why, offset }) => (why.number(), offset),
-        Err(CodecError::NoMemory) => (0, 1),
+    match decode_group(alloc, tags, bytes).err() {
+        None => (0, 0),
+        Some(CodecError::At { why, offset }) => (why.number(), offset),
+        Some(CodecError::NoMemory) => (0, 1),
     }
 }
 

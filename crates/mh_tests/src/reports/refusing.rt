@@ -17,14 +17,15 @@ use mh_told::told::put_total;
 use mh_verify::verify;
 use std::alloc::Global;
 
-/// A play: its script, whose commands end in `|`, the files of its service, and its report.
-struct Play {
-    script: &'static str,
-    files: &'static str,
+/// A play: its script, whose commands end in `|`, the files of its service, and its report. The last one has a list of
+/// acts each of which wants memory.
+pub struct Play {
+    pub script: &'static str,
+    pub files: &'static str,
     report: &'static str,
 }
 
-static PLAYS: [Play; 3] = [
+pub static PLAYS: [Play; 4] = [
     Play {
         script: "run|tick 60000|run|show|",
         files: r#"a {:Application ("~/a" 0) :OnStartUp ( :TransitionTo (("~/t" 0)) ) }
@@ -63,6 +64,18 @@ did 2 idle
 frame 1
 row 00: 0-1 ffffff/000000 "Hi"
 total 7
+"#,
+    },
+    Play {
+        script: "run|show|",
+        files: r#"a {:Application ("~/a" 0) :Items ( {:OStringVar 1 :OrigValue '' } {:Text 2 :OrigBoxSize 480 16 }
+{:Link 3 :EventSource 0 :EventType IsRunning :LinkEffect ( :Append (1 'one ') :Append (1 'by ') :Append (1 'one ')
+:Append (1 'they ') :Append (1 'come, ') :Append (1 'and ') :Append (1 'none ') :Append (1 'is ') :Append (1 'lost')
+:SetData (2 :IndirectRef 1) ) } ) }"#,
+        report: r#"did 20 idle
+frame 1
+row 00: 0-2 ffffff/000000 "one" 4-5 ffffff/000000 "by" 7-9 ffffff/000000 "one" 11-14 ffffff/000000 "they" 16-20 ffffff/000000 "come," 22-24 ffffff/000000 "and" 26-29 ffffff/000000 "none" 31-32 ffffff/000000 "is" 34-37 ffffff/000000 "lost"
+total 20
 "#,
     },
 ];
@@ -141,7 +154,7 @@ fn post(engine: &mut Engine, input: Input) -> Option<()> {
 }
 
 /// Makes a step, once more where memory was refused.
-fn step(engine: &mut Engine) -> Option<Stepped> {
+pub fn step(engine: &mut Engine) -> Option<Stepped> {
     match engine.step() {
         Ok(stepped) => Some(stepped),
         Err(_) => engine.step().ok(),
@@ -159,7 +172,7 @@ fn run(engine: &mut Engine) -> Option<()> {
 }
 
 /// Does what a command of a script says.
-fn obey(alloc: Global, engine: &mut Engine, command: &str) -> Option<()> {
+pub fn obey(alloc: Global, engine: &mut Engine, command: &str) -> Option<()> {
     match command {
         "run" => run(engine),
         "show" | "" => Some(()),
@@ -198,6 +211,14 @@ pub fn told(alloc: Global, engine: &mut Engine) -> Option<Text> {
     }
 }
 
+/// What is told of the engine, asked for once more where memory was refused.
+pub fn told_again(alloc: Global, engine: &mut Engine) -> Option<Text> {
+    match told(alloc, engine) {
+        Some(found) => Some(found),
+        None => told(alloc, engine),
+    }
+}
+
 /// The rows of a picture that are not black, and how many steps were made.
 pub fn shown(alloc: Global, picture: &Picture, taken: u64) -> Option<Text> {
     let black = Picture::black(alloc).ok()?;
@@ -213,6 +234,15 @@ pub fn is_told(told: Option<Text>, wanted: &str) -> bool {
     }
 }
 
+/// Whether the engine shows the last frame of the report, after so many steps, without faults.
+pub fn is_reported(alloc: Global, engine: &mut Engine, wanted: &Play) -> bool {
+    let found = told_again(alloc, engine);
+    match wanted.report.split_once("frame 1\n") {
+        Some((_, frame)) => is_told(found, frame),
+        None => false,
+    }
+}
+
 /// What is played. Its owner below is generic, since a function that owns an engine by name is dear to
 /// prove.
 trait Played {
@@ -222,17 +252,7 @@ trait Played {
 
 impl Played for Engine {
     fn holds(&mut self, alloc: Global, wanted: &Play) -> bool {
-        if obey_all(alloc, self, wanted.script).is_none() {
-            return false;
-        }
-        let found = match told(alloc, self) {
-            Some(found) => Some(found),
-            None => told(alloc, self),
-        };
-        match wanted.report.split_once("frame 1\n") {
-            Some((_, frame)) => is_told(found, frame),
-            None => false,
-        }
+        obey_all(alloc, self, wanted.script).is_some() && is_reported(alloc, self, wanted)
     }
 }
 
