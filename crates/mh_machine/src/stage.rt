@@ -228,7 +228,7 @@ impl Stage {
 
     /// Puts the objects of another scene in the place of those that are there. On the stack stays what is
     /// the application's. What goes is marked in its boxes; what comes is marked when it runs. Where a scene has come
-    /// since the picture was painted, nobody looks at each: all is marked then, which costs less than box by box.
+    /// already since the picture was painted, all is marked: that is one write, and scenes that nobody saw have many boxes.
     pub fn exchange(&mut self, scene: Group, application: &GroupName)
         ensures objects { self.new.objects ≡ record self.old.objects { scene = scene } }
         ensures stack { self.new.stack ≡ filter (λ r. bytes_eq r.group application.now) self.old.stack }
