@@ -66,6 +66,12 @@ found_beside {X} p q x none apart (y ∷ ys) = by (p y) refl (found_beside p q x
     by true e behind = rw (none, apart y e) refl
     by false e behind = ap (λ (t : Option X). cond (q y) (Some y) t) behind
 
+-- and the parts of another group are what they were
+pub parts_beside : (v : Service) (g h : List ℕ) (ps : List Fixed) → bytes_eq g h ≡ false → group_parts (with_group g ps v) h ≡ group_parts v h
+parts_beside v g h ps other =
+    ap (λ (m : Option Parts). unwrap_or (option_map (λ (e : Parts). e.1) m) [])
+    (found_beside (λ (e : Parts). bytes_eq e.0 g) (λ (e : Parts). bytes_eq e.0 h) (g, ps) other (λ e own. subst (λ (n : List ℕ). bytes_eq n h ≡ false) (sym ((bytes_eq-Decides e.0 g).0 own)) other) v.groups)
+
 -- no group is both
 never_both : (v : Service) (g : List ℕ) → is_group_of is_scene v g ≡ true → is_group_of is_application v g ≡ true → false ≡ true
 never_both v g a b = by (part_at (group_ref g) (group_parts v g)) a b

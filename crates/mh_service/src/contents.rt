@@ -12,7 +12,7 @@ ghost use Rattle.mh_service.specs.Contents.{held_files, act_files, acts_files, m
 
 use crate::Service;
 use indexmap::IndexSet;
-use mh_base::{GroupName, Value};
+use mh_base::{GroupName, Seq, Value};
 use mh_group::Attribute;
 use mh_model::{Act, Argument, Effect, Fixed, FixedPart, Held, Member};
 use std::alloc::{AllocError, Global};
@@ -81,6 +81,17 @@ impl ContentNames {
     {
         self.names.contains(name)
     }
+
+    /// The names, each once, in the order in which the service names them first.
+    pub fn to_list(&self, alloc: Global) -> Result<Seq<GroupName>, AllocError>
+        ensures { IfOk result (λ names. names ≡ self.now) }
+    {
+        let mut names = Seq::new(alloc);
+        for name in self.names.iter() {
+            names.push(name.clone()?)?;
+        }
+        Ok(names)
+    }
 }
 
 impl Service {
@@ -105,8 +116,8 @@ impl Service {
     }
 }
 
-/// The set of these names.
-fn each_once(alloc: Global, named: &[GroupName]) -> Result<IndexSet<GroupName>, AllocError>
+/// The set of these names, in which they are looked up by hash.
+pub fn each_once(alloc: Global, named: &[GroupName]) -> Result<IndexSet<GroupName>, AllocError>
     ensures { (name : _) → IfOk result (λ names. list_any (bytes_eq name) names.keys
         ≡ list_any (bytes_eq name) named.now) }
 {

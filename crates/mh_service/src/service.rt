@@ -141,6 +141,13 @@ impl Service {
         self.late.as_slice()
     }
 
+    /// The groups as their files write them, in order; none of a service that is known in part.
+    pub fn files(&self) -> &[(GroupName, SharedGroup)]
+        ensures { result.now ≡ self.now.files }
+    {
+        self.files.as_slice()
+    }
+
     /// The group of this name as its file writes it, if there is one.
     pub fn written(&self, name: &GroupName) -> Option<&SharedGroup>
         ensures { option_copied result ≡ written_at name.now self.now.files }

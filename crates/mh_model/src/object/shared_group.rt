@@ -28,6 +28,13 @@ impl SharedGroup {
         Ok(SharedGroup { shared })
     }
 
+    /// The group.
+    pub fn group(&self) -> &Group
+        ensures { result.now ≡ self.now }
+    {
+        self.shared.as_ref()
+    }
+
     /// What is written.
     pub fn written(&self) -> &Written
         ensures { result.now ≡ self.now }
