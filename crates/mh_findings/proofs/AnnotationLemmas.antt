@@ -7,7 +7,7 @@ use Rattle.std.proofs.lemmas.Fmt.{decimal_by_steps}
 use Rattle.std.proofs.lemmas.Bool.Decides.{nat_tests}
 use Rattle.mh_findings.specs.declared.finding.Grade.{Grade}
 use Rattle.mh_findings.specs.declared.finding.Grade.TheVariants as grade
-use Rattle.mh_findings.specs.declared.finding.Span.{Span}
+use Rattle.mh_places.specs.declared.span.Span.{Span}
 use Rattle.mh_findings.specs.Messages.{message, title}
 use Rattle.mh_findings.specs.Short.{is_feed}
 use Rattle.mh_findings.specs.Github.{level_word, escape, escape_property, span_words, annotation, AreNumbers, EachHasAnAnnotation}

@@ -7,10 +7,10 @@ use Rattle.serde_json.specs.Written.{has_float, items_have_float}
 use Rattle.mh_findings.specs.declared.finding.Finding.{Finding}
 use Rattle.mh_findings.specs.declared.finding.Grade.{Grade}
 use Rattle.mh_findings.specs.declared.finding.Grade.TheVariants as grade
-use Rattle.mh_findings.specs.declared.finding.Point.{Point}
+use Rattle.mh_places.specs.declared.span.Point.{Point}
 use Rattle.mh_findings.specs.declared.finding.Related.{Related}
 use Rattle.mh_findings.specs.declared.finding.Site.{Site}
-use Rattle.mh_findings.specs.declared.finding.Span.{Span}
+use Rattle.mh_places.specs.declared.span.Span.{Span}
 use Rattle.mh_findings.specs.Messages.{grade_word}
 use Rattle.mh_findings.specs.Json.{point_data, span_data, site_data, related_data, related_items, mend_data, finding_data, point_in, span_in, site_in, related_in, all_related_in, mend_in, grade_named, found_as, finding_in, FindingsReadBack}
 

@@ -6,8 +6,8 @@ use Rattle.std.specs.List.{count_by, flat_map}
 use Rattle.mh_findings.specs.declared.finding.Finding.{Finding}
 use Rattle.mh_findings.specs.declared.finding.Grade.{Grade}
 use Rattle.mh_findings.specs.declared.finding.Grade.TheVariants as grade
-use Rattle.mh_findings.specs.declared.finding.Point.{Point}
-use Rattle.mh_findings.specs.declared.finding.Span.{Span}
+use Rattle.mh_places.specs.declared.span.Point.{Point}
+use Rattle.mh_places.specs.declared.span.Span.{Span}
 use Rattle.mh_findings.specs.Messages.{message, title}
 use Rattle.mh_findings.specs.Short.{is_feed}
 

@@ -9,10 +9,10 @@ use Rattle.serde_json.specs.Written.{compact_text}
 use Rattle.mh_findings.specs.declared.finding.Finding.{Finding}
 use Rattle.mh_findings.specs.declared.finding.Grade.{Grade}
 use Rattle.mh_findings.specs.declared.finding.Grade.TheVariants as grade
-use Rattle.mh_findings.specs.declared.finding.Point.{Point}
+use Rattle.mh_places.specs.declared.span.Point.{Point}
 use Rattle.mh_findings.specs.declared.finding.Related.{Related}
 use Rattle.mh_findings.specs.declared.finding.Site.{Site}
-use Rattle.mh_findings.specs.declared.finding.Span.{Span}
+use Rattle.mh_places.specs.declared.span.Span.{Span}
 use Rattle.mh_findings.specs.Messages.{grade_word}
 
 -- WHAT IS WRITTEN

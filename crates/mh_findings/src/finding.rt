@@ -1,6 +1,7 @@
 //! What is found of a service: how grave it is, where it stands, what is wrong, and how it is mended.
 use crate::words::Words;
 use mh_base::Seq;
+use mh_places::Span;
 
 /// How grave a finding is.
 #[derive(Clone, Copy)]
@@ -17,30 +18,12 @@ pub enum Grade {
     Note,
 }
 
-/// A place in a file.
-#[derive(Clone, Copy)]
-pub struct Point {
-    /// How many bytes stand in front of it.
-    pub byte: u64,
-    /// From 1 on.
-    pub line: u64,
-    /// From 1 on. A column is a character.
-    pub column: u64,
-}
-
-/// What of a file is meant. Where nothing in it is, both places are the beginning.
-#[derive(Clone, Copy)]
-pub struct Span {
-    pub start: Point,
-    /// The place behind the last byte that is meant.
-    pub end: Point,
-}
-
 /// A span in a file.
 #[derive(Drop)]
 pub struct Site {
     /// The path of the file, as the caller gave it.
     pub file: Words,
+    /// What of the file is meant. Where nothing in it is, it is empty, at the beginning.
     pub span: Span,
 }
 

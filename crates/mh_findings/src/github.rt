@@ -4,8 +4,9 @@ ghost use Rattle.mh_findings.specs.Github.{EachHasAnAnnotation, annotation, leve
 ghost use Rattle.mh_findings.specs.Github as spec;
 ghost use Rattle.mh_findings.specs.Messages.{message, title};
 
-use crate::finding::{Finding, Grade, Span};
+use crate::finding::{Finding, Grade};
 use crate::message::{message_of, title_of};
+use mh_places::Span;
 use mh_told::text::Text;
 use std::alloc::{AllocError, Global};
 
@@ -51,13 +52,13 @@ fn put_span(text: &mut Text, span: &Span) -> Result<(), AllocError>
     ensures { OnOk result (text.new ≡ text.old ++ spec.span_words span.now) }
 {
     text.put(b",line=")?;
-    text.put_number(span.start.line)?;
+    text.put_number(span.start.line as u64)?;
     text.put(b",endLine=")?;
-    text.put_number(span.end.line)?;
+    text.put_number(span.end.line as u64)?;
     text.put(b",col=")?;
-    text.put_number(span.start.column)?;
+    text.put_number(span.start.column as u64)?;
     text.put(b",endColumn=")?;
-    text.put_number(span.end.column)
+    text.put_number(span.end.column as u64)
 }
 
 fn put_title(alloc: Global, text: &mut Text, finding: &Finding) -> Result<(), AllocError>

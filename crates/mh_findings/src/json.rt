@@ -6,9 +6,10 @@ ghost use Rattle.serde_json.specs.View.{view, items_view};
 ghost use Rattle.serde_json.specs.Written.{compact_text};
 ghost use Rattle.mh_findings.specs.Json.{FindingsReadBack, finding_data, finding_of, json_line, mend_data, point_data, related_data, related_items, site_data, span_data};
 
-use crate::finding::{Finding, Point, Related, Site, Span};
+use crate::finding::{Finding, Related, Site};
 use crate::message::grade_word;
 use crate::words::Words;
+use mh_places::{Point, Span};
 use mh_told::text::Text;
 use serde_json::{Map, Value, json, put};
 use std::alloc::{AllocError, Global};
@@ -145,5 +146,5 @@ fn span_value(alloc: Global, span: &Span) -> Result<Value, AllocError>
 fn point_value(alloc: Global, point: &Point) -> Result<Value, AllocError>
     ensures { IfOk result (λ value. view value ≡ point_data point.now) }
 {
-    json!(in alloc; {"byte": point.byte, "column": point.column, "line": point.line})
+    json!(in alloc; {"byte": point.byte as u64, "column": point.column as u64, "line": point.line as u64})
 }

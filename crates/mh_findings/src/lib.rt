@@ -13,7 +13,7 @@ mod message;
 mod short;
 mod words;
 
-pub use finding::{Finding, Grade, Point, Related, Site, Span};
+pub use finding::{Finding, Grade, Related, Site};
 pub use format::{Format, put_findings};
 pub use github::each_has_an_annotation;
 pub use json::{findings_read_back, json_of};

@@ -30,9 +30,9 @@ fn short_words(alloc: Global, finding: &Finding) -> Result<Text, AllocError>
     let mut text = Text::new(alloc);
     text.put(finding.at.file.as_bytes())?;
     text.put(b":")?;
-    text.put_number(finding.at.span.start.line)?;
+    text.put_number(finding.at.span.start.line as u64)?;
     text.put(b":")?;
-    text.put_number(finding.at.span.start.column)?;
+    text.put_number(finding.at.span.start.column as u64)?;
     text.put(b": ")?;
     put_title(&mut text, finding)?;
     text.put(b": ")?;

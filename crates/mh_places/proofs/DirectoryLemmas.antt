@@ -1,4 +1,4 @@
--- Tables of places are what is told of the text, and a file's tables are found by its name.
+-- Tables of spans are what is told of the text, and a file's tables are found by its name.
 use Rattle.std.proofs.Common.{◌≡◌, ◌⊎◌, ℕ, zero, suc, ◌+◌, Bool, true, false, cond, List, [], ◌∷◌, ◌++◌, filter, length, map, Option, Some, None, refl, inl, inr, ap, sym, subst, ◌∙◌, append-nil, arith, length-append}
 use Rattle.std.specs.Prelude.{⊤, nat_eq, slice_get, unwrap_or}
 use Rattle.std.specs.List.{flat_map, position, position_or_len}
@@ -14,40 +14,40 @@ use Rattle.mh_text.specs.Marks.{marks}
 use Rattle.mh_told.specs.Reading.{Source}
 use Rattle.mh_places.specs.declared.directory.Turn.{Turn}
 use Rattle.mh_places.specs.declared.directory.Turn.TheVariants as turn
-use Rattle.mh_places.specs.declared.place.Place.{Place}
-use Rattle.mh_places.specs.Places.{place_at}
-use Rattle.mh_places.specs.Directory.{AreBeside, AreBesideOf, IsFound, action_places, file_of, is_action_of, is_object, listed, marked_at, object_places, places_in_turn, seen_at}
+use Rattle.mh_places.specs.declared.span.Span.{Span}
+use Rattle.mh_places.specs.Spans.{span_at}
+use Rattle.mh_places.specs.Directory.{AreBeside, AreBesideOf, IsFound, action_spans, file_of, is_action_of, is_object, listed, marked_at, object_spans, spans_in_turn, seen_at}
 
 -- IN A TABLE
 
--- a place more under its number
-pub listed_more : (old new : List (ℕ × List Place)) (k : ℕ) (w : List Place) (x : Place)
+-- a span more under its number
+pub listed_more : (old new : List (ℕ × List Span)) (k : ℕ) (w : List Span) (x : Span)
     → ((n : ℕ) → lookup (nat_eq n) new ≡ cond (nat_eq k n) (Some w) (lookup (nat_eq n) old)) → w ≡ listed k old ++ x ∷ []
     → (n : ℕ) → listed n new ≡ listed n old ++ cond (nat_eq k n) (x ∷ []) []
-listed_more old new k w x put is n = ap (λ (o : Option (List Place)). unwrap_or o []) (put n) ∙ by (nat_eq k n) refl
+listed_more old new k w x put is n = ap (λ (o : Option (List Span)). unwrap_or o []) (put n) ∙ by (nat_eq k n) refl
   where
     by : (b : Bool) → nat_eq k n ≡ b → unwrap_or (cond b (Some w) (lookup (nat_eq n) old)) [] ≡ listed n old ++ cond b (x ∷ []) []
     by true e = is ∙ ap (λ (j : ℕ). listed j old ++ x ∷ []) (eqb-true k n e)
     by false e = sym (append-nil (listed n old))
 
 -- what passes, place by place
-kept : {X : Type 0} (p : X → Bool) (f : X → Place) (xs : List X) → flat_map (λ x. cond (p x) (f x ∷ []) []) xs ≡ map f (filter p xs)
+kept : {X : Type 0} (p : X → Bool) (f : X → Span) (xs : List X) → flat_map (λ x. cond (p x) (f x ∷ []) []) xs ≡ map f (filter p xs)
 kept p f [] = refl
 kept p f (x ∷ xs) = by (p x) (kept p f xs)
   where
     by : (b : Bool) → flat_map (λ y. cond (p y) (f y ∷ []) []) xs ≡ map f (filter p xs) → cond b (f x ∷ []) [] ++ flat_map (λ y. cond (p y) (f y ∷ []) []) xs ≡ map f (cond b (x ∷ filter p xs) (filter p xs))
-    by true e = ap (λ (ys : List Place). f x ∷ ys) e
+    by true e = ap (λ (ys : List Span). f x ∷ ys) e
     by false e = e
 
-pub seen_all : (bs : List ℕ) (n : ℕ) → flat_map (seen_at bs n) (landmarks bs) ≡ object_places bs n
-seen_all bs n = kept (λ (l : Landmark). is_object n l.sight) (λ (l : Landmark). place_at bs l.start) (landmarks bs)
+pub seen_all : (bs : List ℕ) (n : ℕ) → flat_map (seen_at bs n) (landmarks bs) ≡ object_spans bs n
+seen_all bs n = kept (λ (l : Landmark). is_object n l.sight) (λ (l : Landmark). span_at bs l.start l.length) (landmarks bs)
 
-marked_in : (bs : List ℕ) (n : ℕ) (t : Turn) → flat_map (marked_at bs n t) (marks bs) ≡ places_in_turn bs n t
-marked_in bs n t = kept (is_action_of n t) (λ (m : Mark). place_at bs m.start) (marks bs)
+marked_in : (bs : List ℕ) (n : ℕ) (t : Turn) → flat_map (marked_at bs n t) (marks bs) ≡ spans_in_turn bs n t
+marked_in bs n t = kept (is_action_of n t) (λ (m : Mark). span_at bs m.start m.length) (marks bs)
 
 -- those of the three turns, one behind the other
 pub marked_all : (bs : List ℕ) (n : ℕ)
-    → (flat_map (marked_at bs n turn.StartUp) (marks bs) ++ flat_map (marked_at bs n turn.CloseDown) (marks bs)) ++ flat_map (marked_at bs n turn.Last) (marks bs) ≡ action_places bs n
+    → (flat_map (marked_at bs n turn.StartUp) (marks bs) ++ flat_map (marked_at bs n turn.CloseDown) (marks bs)) ++ flat_map (marked_at bs n turn.Last) (marks bs) ≡ action_spans bs n
 marked_all bs n = λ i. marked_in bs n turn.StartUp i ++ marked_in bs n turn.CloseDown i ++ marked_in bs n turn.Last i
 
 -- BY FILES

@@ -1,2 +1,3 @@
 pub mod CountingLemmas
 pub mod DirectoryLemmas
+pub mod SpanLemmas

@@ -8,6 +8,48 @@ ghost use Rattle.mh_places.specs.Places.{is_no_feed, place_at as place_at_lem, p
 ghost use Rattle.mh_places.specs.Counting as spec;
 
 use crate::place::{Place, place_at};
+use std::marker::Model;
+
+/// Places in a text, each counted from the one that was asked for before: asked for in their order, all together cost what the
+/// text is long. A contract sees the text.
+#[derive(Drop)]
+pub struct Counter<'a> {
+    bytes: &'a [u8],
+    known: Known,
+}
+
+impl<'a> Model for Counter<'a> {
+    ghost use Rattle.std.specs.Prelude.{◌≡◌, List, ℕ};
+    ghost use Rattle.mh_places.specs.Places.{place_at};
+
+    ghost Value = { List ℕ };
+
+    ghost view = { λ c. c.bytes.now };
+
+    ghost invariant = { λ c. c.known.place ≡ place_at c.bytes.now c.known.offset };
+}
+
+impl<'a> Counter<'a> {
+    /// The places in this text.
+    pub fn of(bytes: &'a [u8]) -> Counter<'a>
+        ensures { result ≡ bytes.now }
+    {
+        Counter {
+            bytes,
+            known: beginning(bytes),
+        }
+    }
+
+    /// Where the byte with this number stands. It costs the bytes behind the place that was asked for before, or, where that
+    /// stands behind this one, all bytes before this one.
+    pub fn place_at(&mut self, offset: usize) -> Place
+        ensures is { result ≡ place_at_lem self.old offset }
+        ensures same { self.new ≡ self.old }
+    {
+        self.known = known_behind(self.bytes, self.known, offset);
+        self.known.place
+    }
+}
 
 /// A place that is known: so many bytes stand before it.
 #[derive(Clone, Copy)]

@@ -12,7 +12,8 @@ ghost use Rattle.mh_places.specs.Directory.{AreBeside, AreOf, IsFound, file_of, 
 
 use crate::counting::{beginning, known_behind};
 use crate::place::Place;
-use crate::table::{Table, place_under, put};
+use crate::span::{Span, span_from};
+use crate::table::{Table, put, span_under};
 use indexmap::IndexMap;
 use mh_base::{GroupName, ObjRef};
 use mh_group::Attribute;
@@ -28,7 +29,7 @@ enum Turn {
     Last,
 }
 
-/// The places of a text.
+/// The spans of a text.
 #[derive(Drop)]
 struct Tables {
     objects: Table,
@@ -71,13 +72,35 @@ impl<'a> Directory<'a> {
         Ok(Directory { files, tables })
     }
 
-    /// Where the object stands, if it is found: where its number does, or the class of a group.
+    /// What is meant by the object, if it is found: its number, or the class of a group.
+    #[tactic(auto, unfolding(crate::specs::Directory::object_span))]
+    pub fn object_span(&self, at: &ObjRef) -> Option<Span>
+        ensures { result ≡ spec.object_span self.now at.now }
+    {
+        match self.tables_of_file(&at.group) {
+            Some(tables) => span_under(&tables.objects, at.number, 0),
+            None => None,
+        }
+    }
+
+    /// Where the object stands, if it is found.
     #[tactic(auto, unfolding(crate::specs::Directory::object_place))]
     pub fn object_place(&self, at: &ObjRef) -> Option<Place>
         ensures { result ≡ spec.object_place self.now at.now }
     {
+        match self.object_span(at) {
+            Some(span) => Some(span.place()),
+            None => None,
+        }
+    }
+
+    /// What is meant by the action of the object before which so many are counted, if it is found: its keyword.
+    #[tactic(auto, unfolding(crate::specs::Directory::action_span))]
+    pub fn action_span(&self, at: &ObjRef, before: usize) -> Option<Span>
+        ensures { result ≡ spec.action_span self.now at.now before }
+    {
         match self.tables_of_file(&at.group) {
-            Some(tables) => place_under(&tables.objects, at.number, 0),
+            Some(tables) => span_under(&tables.actions, at.number, before),
             None => None,
         }
     }
@@ -87,8 +110,8 @@ impl<'a> Directory<'a> {
     pub fn action_place(&self, at: &ObjRef, before: usize) -> Option<Place>
         ensures { result ≡ spec.action_place self.now at.now before }
     {
-        match self.tables_of_file(&at.group) {
-            Some(tables) => place_under(&tables.actions, at.number, before),
+        match self.action_span(at, before) {
+            Some(span) => Some(span.place()),
             None => None,
         }
     }
@@ -141,7 +164,7 @@ fn tables_of(alloc: Global, files: &[(GroupName, Vec<u8>)]) -> Result<Vec<Tables
     Ok(tables)
 }
 
-/// The places of a text.
+/// The spans of a text.
 fn tables_in(alloc: Global, bytes: &[u8]) -> Result<Tables, AllocError>
     ensures { IfOk result (AreOf bytes.now) }
 {
@@ -152,7 +175,7 @@ fn tables_in(alloc: Global, bytes: &[u8]) -> Result<Tables, AllocError>
 
 #[tactic(auto, using(crate::proofs::DirectoryLemmas::seen_all))]
 fn objects_in(alloc: Global, bytes: &[u8]) -> Result<Table, AllocError>
-    ensures { IfOk result (λ table. (n : ℕ) → listed n table.entries ≡ spec.object_places bytes.now n) }
+    ensures { IfOk result (λ table. (n : ℕ) → listed n table.entries ≡ spec.object_spans bytes.now n) }
 {
     let landmarks = landmarks(alloc, bytes)?;
     let mut table = IndexMap::new(alloc);
@@ -160,7 +183,7 @@ fn objects_in(alloc: Global, bytes: &[u8]) -> Result<Table, AllocError>
     Ok(table)
 }
 
-/// Puts the places of landmarks under the numbers of objects.
+/// Puts the spans of landmarks under the numbers of objects.
 fn put_landmarks(
     alloc: Global,
     table: &mut Table,
@@ -173,33 +196,34 @@ fn put_landmarks(
     let mut known = beginning(bytes);
     for landmark in landmarks {
         known = known_behind(bytes, known, landmark.start);
-        put_sight(alloc, table, landmark.sight, known.place)?;
+        let span = span_from(bytes, known, landmark.length);
+        put_sight(alloc, table, landmark.sight, span)?;
     }
     Ok(())
 }
 
-/// Puts a place under the number of the object that is seen there.
+/// Puts a span under the number of the object that is seen there.
 fn put_sight(
     alloc: Global,
     table: &mut Table,
     sight: Sight<'_>,
-    place: Place,
+    span: Span,
 ) -> Result<(), AllocError>
     ensures { OnOk result
         ((n : ℕ) →
         listed n table.new.entries
-        ≡ listed n table.old.entries ++ (if is_object n (sight_of sight.entry) then place ∷ [] else [])) }
+        ≡ listed n table.old.entries ++ (if is_object n (sight_of sight.entry) then span ∷ [] else [])) }
 {
     match sight {
-        Sight::Class => put(alloc, table, 0, place),
-        Sight::Number(number) => put(alloc, table, number, place),
+        Sight::Class => put(alloc, table, 0, span),
+        Sight::Number(number) => put(alloc, table, number, span),
         Sight::Name(_) => Ok(()),
     }
 }
 
 #[tactic(auto, using(crate::proofs::DirectoryLemmas::marked_all))]
 fn actions_in(alloc: Global, bytes: &[u8]) -> Result<Table, AllocError>
-    ensures { IfOk result (λ table. (n : ℕ) → listed n table.entries ≡ spec.action_places bytes.now n) }
+    ensures { IfOk result (λ table. (n : ℕ) → listed n table.entries ≡ spec.action_spans bytes.now n) }
 {
     let marks = marks(alloc, bytes)?;
     let mut table = IndexMap::new(alloc);
@@ -209,7 +233,7 @@ fn actions_in(alloc: Global, bytes: &[u8]) -> Result<Table, AllocError>
     Ok(table)
 }
 
-/// Puts the places of the actions that are counted in this turn.
+/// Puts the spans of the actions that are counted in this turn.
 fn put_marks(
     alloc: Global,
     table: &mut Table,
@@ -224,26 +248,27 @@ fn put_marks(
     let mut known = beginning(bytes);
     for mark in marks {
         known = known_behind(bytes, known, mark.start);
-        put_mark(alloc, table, mark, turn, known.place)?;
+        let span = span_from(bytes, known, mark.length);
+        put_mark(alloc, table, mark, turn, span)?;
     }
     Ok(())
 }
 
-/// Puts a place under the object of the action that is marked there, if it is counted in this turn.
+/// Puts a span under the object of the action that is marked there, if it is counted in this turn.
 fn put_mark(
     alloc: Global,
     table: &mut Table,
     mark: &Mark,
     turn: Turn,
-    place: Place,
+    span: Span,
 ) -> Result<(), AllocError>
     ensures { OnOk result
         ((n : ℕ) →
         listed n table.new.entries
-        ≡ listed n table.old.entries ++ (if is_action_of n turn mark.now then place ∷ [] else [])) }
+        ≡ listed n table.old.entries ++ (if is_action_of n turn mark.now then span ∷ [] else [])) }
 {
     if mark.action.is_some() && is_in(turn, mark.field) {
-        put(alloc, table, mark.object, place)
+        put(alloc, table, mark.object, span)
     } else {
         Ok(())
     }
