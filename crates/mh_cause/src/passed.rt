@@ -1,7 +1,6 @@
 //! Which of the arguments of a call does not fit the program.
 ghost use Rattle.std.specs.Prelude.{◌≡◌, length};
 ghost use Rattle.std.specs.Option.{option_copied};
-ghost use Rattle.mh_model.specs.Programs.{fits_param as fits_param_lem, same_plain};
 ghost use Rattle.mh_cause.specs.Details.{call_detail, name_detail, params_detail, passed_detail};
 
 use crate::acts::act_of;
@@ -9,9 +8,7 @@ use crate::calls::called_name;
 use crate::detail::Detail;
 use crate::programs::arguments_of;
 use crate::refused::Refused;
-use mh_base::Kind;
-use mh_model::kinds::kind_of;
-use mh_model::{Argument, Param, Plain};
+use mh_model::{Argument, Param, fits_param};
 use mh_resident::params_for;
 use mh_service::Service;
 
@@ -63,26 +60,4 @@ fn passed_detail(params: &[Param], arguments: &[Argument]) -> Detail
         left = behind;
     }
     Detail::Value(2)
-}
-
-fn fits_param(param: Param, argument: &Argument) -> bool
-    ensures { result ≡ fits_param_lem param argument.now }
-{
-    match (param, argument) {
-        (Param::In(plain), Argument::Direct(value)) => is_plain(plain, kind_of(value)),
-        (Param::In(plain) | Param::Out(plain), Argument::Through(_, Some(kind))) => {
-            is_plain(plain, *kind)
-        }
-        _ => false,
-    }
-}
-
-/// Whether the plain kind is this kind.
-pub(crate) fn is_plain(plain: Plain, kind: Kind) -> bool
-    ensures { result ≡ same_plain plain kind }
-{
-    matches!(
-        (plain, kind),
-        (Plain::Bool, Kind::Bool) | (Plain::Int, Kind::Int) | (Plain::Octets, Kind::Octets)
-    )
 }

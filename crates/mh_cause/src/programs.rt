@@ -5,12 +5,11 @@ ghost use Rattle.mh_model.specs.Programs.{builtins as all_builtins};
 ghost use Rattle.mh_cause.specs.Calls.{argument_words, arguments_from, arguments_of, arguments_told, builtin_words, counted, held_kind, like_builtin, near_builtin, near_words, param_words, params_from, params_told, purpose, same_param, words_from};
 
 use crate::lists::{kind_told, kinds_counted};
-use crate::passed::is_plain;
 use mh_base::Kind;
 use mh_misread::is_like;
 use mh_model::act::passed;
 use mh_model::kinds::kind_of;
-use mh_model::{Act, Argument, Builtin, Param};
+use mh_model::{Act, Argument, Builtin, Param, same_plain};
 use mh_resident::{params_of, word};
 use mh_told::text::Text;
 use std::alloc::AllocError;
@@ -55,7 +54,7 @@ fn same_param(param: Param, other: Param) -> bool
 {
     match (param, other) {
         (Param::In(plain), Param::In(other)) | (Param::Out(plain), Param::Out(other)) => {
-            is_plain(plain, other.kind())
+            same_plain(plain, other.kind())
         }
         _ => false,
     }

@@ -40,7 +40,7 @@ pub fn decode_group(alloc: Global, tags: &TagTable, octets: &[u8]) -> Result<Gro
     ensures one { IfOk result (SpellsNoOther tags.now octets.now) }
     ensures only { IfErr result (λ e. e ≢ CodecError.NoMemory → SpellsNone tags.now octets.now) }
 {
-    tags.is_table();
+    tags.reveal_table();
     if octets.len() > LARGEST_FILE {
         return Err(CodecError::At {
             why: Why::Limit,
@@ -134,7 +134,7 @@ fn fields<'a>(
     requires { last ≤ 38 }
     ensures { Gives (λ x. x) result (fields_lem tags.now class 64 last before reader.entry) }
 {
-    tags.is_table();
+    tags.reveal_table();
     let mut fields = before;
     let mut last = last;
     let mut reader = reader;

@@ -15,7 +15,7 @@ impl TagTable {
     pub(crate) fn class_with(&self, tag: u16) -> Option<Class>
         ensures { result ≡ class_with self.now tag }
     {
-        if let Some(class) = self.likely_class(tag) {
+        if let Some(class) = self.class_as_in_profile(tag) {
             return Some(class);
         }
         CLASSES
@@ -25,10 +25,10 @@ impl TagTable {
     }
 
     /// The class that has the tag in the profile, where it has it here too. It saves the search.
-    fn likely_class(&self, tag: u16) -> Option<Class>
+    fn class_as_in_profile(&self, tag: u16) -> Option<Class>
         ensures { IfSome result (λ c. Some c ≡ class_with self.now tag) }
     {
-        self.is_table();
+        self.reveal_table();
         let class = at_place(&CLASSES, Some(tag))?;
         if self.class_tag(class) == tag {
             Some(class)
@@ -42,7 +42,7 @@ impl TagTable {
     pub(crate) fn attribute_with(&self, tag: u16) -> Option<Attribute>
         ensures { result ≡ attribute_with self.now tag }
     {
-        if let Some(attribute) = self.likely_attribute(tag) {
+        if let Some(attribute) = self.attribute_as_in_profile(tag) {
             return Some(attribute);
         }
         ATTRIBUTES
@@ -52,10 +52,10 @@ impl TagTable {
     }
 
     /// The attribute that has the tag in the profile, where it has it here too.
-    fn likely_attribute(&self, tag: u16) -> Option<Attribute>
+    fn attribute_as_in_profile(&self, tag: u16) -> Option<Attribute>
         ensures { IfSome result (λ a. Some a ≡ attribute_with self.now tag) }
     {
-        self.is_table();
+        self.reveal_table();
         let attribute = at_place(&ATTRIBUTES, tag.checked_sub(1))?;
         if self.attribute_tag(attribute) == tag {
             Some(attribute)
@@ -69,7 +69,7 @@ impl TagTable {
     pub(crate) fn action_with(&self, tag: u16) -> Option<ActionName>
         ensures { result ≡ action_with self.now tag }
     {
-        if let Some(action) = self.likely_action(tag) {
+        if let Some(action) = self.action_as_in_profile(tag) {
             return Some(action);
         }
         ACTIONS
@@ -79,10 +79,10 @@ impl TagTable {
     }
 
     /// The action that has the tag in the profile, where it has it here too.
-    fn likely_action(&self, tag: u16) -> Option<ActionName>
+    fn action_as_in_profile(&self, tag: u16) -> Option<ActionName>
         ensures { IfSome result (λ a. Some a ≡ action_with self.now tag) }
     {
-        self.is_table();
+        self.reveal_table();
         let action = at_place(&ACTIONS, tag.checked_sub(100))?;
         if self.action_tag(action) == tag {
             Some(action)

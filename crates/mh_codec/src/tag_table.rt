@@ -72,7 +72,7 @@ impl TagTable {
     }
 
     /// Reveals to the prover what holds of each table. It does nothing.
-    pub fn is_table(&self)
+    pub fn reveal_table(&self)
         ensures { IsTable self.now }
     {
         let _column = self.classes.as_slice();

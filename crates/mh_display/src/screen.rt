@@ -81,7 +81,7 @@ impl Screen {
     }
 
     /// Whether it is known that all cells are to be painted anew, so that no more can be spoilt.
-    pub fn is_spoilt(&self) -> bool
+    pub fn is_all_stale(&self) -> bool
         ensures { result ≡ true → IsStale self.now.marks }
     {
         self.spoilt

@@ -53,4 +53,5 @@ pub use rest::Rest;
 pub use sort::Sort;
 pub use time::{Moments, Timer};
 pub use transition::Transition;
+pub use wrong::calls::{fits_param, same_plain};
 pub use wrong::{Rank, Wrong};

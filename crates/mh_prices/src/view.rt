@@ -1,7 +1,7 @@
 //! What is asked of a configuration while prices are added up, and what they are added up to.
 //!
-//! Each trait stands on the one before it, so that what one of them answers can itself be a walk over those below: a change of a
-//! list is one where it has no key of its own.
+//! `Lists` stands on `View`, and `Around` and `Groups` each on `Lists`, so that what one of them answers can itself be a walk over
+//! those below: a change of a list is one where it has no key of its own.
 use crate::told::Told;
 use mh_base::{EventType, GroupName, ObjRef};
 use mh_model::Fixed;

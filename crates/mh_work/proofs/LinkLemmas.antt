@@ -21,7 +21,7 @@ use Rattle.mh_model.specs.Service.{parts, fresh}
 use Rattle.std.specs.Str.{bytes_eq}
 use Rattle.mh_model.proofs.PartLemmas.{parts-fresh}
 use Rattle.mh_work.specs.Listening.{Index, place_in, waiting}
-use Rattle.mh_work.specs.Links.{source_of, listener_at, place_of, places, IsIndex, is_awake, answer, answer_at, answers}
+use Rattle.mh_work.specs.Links.{source_of, listener_at, place_of, places, IsIndex, fires, answer, answer_at, answers}
 
 -- The index
 
@@ -111,17 +111,17 @@ put-split e o =
     let told : Option Value = as_value (held attribute.EventSource ps) in
     let kind : Option EventType = as_event (held attribute.EventType ps) in
     let given = hears_data (as_value (held attribute.EventData ps)) e.data in
-    let moved : matches e o ≡ (is_link o.fixed.class && is_awake e o) = apart (is_link o.fixed.class) o.body.running (hears_source told e.source) (hears_type kind e.kind) given in
+    let moved : matches e o ≡ (is_link o.fixed.class && fires e o) = apart (is_link o.fixed.class) o.body.running (hears_source told e.source) (hears_type kind e.kind) given in
     let own : Bool = waits e.source.number (number_of e.kind) (as_reference told) kind in
-    let deaf : own ≡ false → is_awake e o ≡ false = silent o.body.running (hears_type kind e.kind) (hears_source told e.source) given own (waits-heard told kind e) in
+    let deaf : own ≡ false → fires e o ≡ false = silent o.body.running (hears_type kind e.kind) (hears_source told e.source) given own (waits-heard told kind e) in
     by (is_link o.fixed.class) (as_reference told) kind deaf ∙ ap (λ (b : Bool). if b then acts (as_effect (held attribute.LinkEffect o.fixed.properties)) else []) (sym moved)
   where
-    still : (own : Bool) → (own ≡ false → is_awake e o ≡ false) → (if own then answer e o else []) ≡ answer e o
+    still : (own : Bool) → (own ≡ false → fires e o ≡ false) → (if own then answer e o else []) ≡ answer e o
     still true deaf = refl
     still false deaf = ap (λ (b : Bool). if b then acts (as_effect (held attribute.LinkEffect o.fixed.properties)) else []) (sym (deaf refl))
 
-    by : (link : Bool) (source : Option ObjRef) (kind : Option EventType) → (waits e.source.number (number_of e.kind) source kind ≡ false → is_awake e o ≡ false)
-        → (if waits e.source.number (number_of e.kind) (if link then source else None) kind then answer e o else []) ≡ (if link && is_awake e o then acts (as_effect (held attribute.LinkEffect o.fixed.properties)) else [])
+    by : (link : Bool) (source : Option ObjRef) (kind : Option EventType) → (waits e.source.number (number_of e.kind) source kind ≡ false → fires e o ≡ false)
+        → (if waits e.source.number (number_of e.kind) (if link then source else None) kind then answer e o else []) ≡ (if link && fires e o then acts (as_effect (held attribute.LinkEffect o.fixed.properties)) else [])
     by true source kind deaf = still (waits e.source.number (number_of e.kind) source kind) deaf
     by false source kind deaf = refl
 

@@ -45,15 +45,15 @@ IsIndex buckets ps = (n t : ℕ) → waiting n t buckets ≡ places 0 n t ps
 
 -- A link that waits for the event's type from an object of the right number is asked for the rest: whether it runs, and
 -- waits for the event's source and data.
-abbrev pub is_awake : Event → Object → Bool
-is_awake e o =
+abbrev pub fires : Event → Object → Bool
+fires e o =
     o.body.running && hears_type (as_event (held attribute.EventType o.fixed.properties)) e.kind
     && hears_source (as_value (held attribute.EventSource o.fixed.properties)) e.source
     && hears_data (as_value (held attribute.EventData o.fixed.properties)) e.data
 
 -- what it then puts
 abbrev pub answer : Event → Object → List Item
-answer e o = if is_awake e o then acts (as_effect (held attribute.LinkEffect o.fixed.properties)) else []
+answer e o = if fires e o then acts (as_effect (held attribute.LinkEffect o.fixed.properties)) else []
 
 abbrev pub answer_at : Event → List Object → ℕ → List Item
 answer_at e os n = option_map_or (answer e) (slice_get os n) []

@@ -1,16 +1,16 @@
 //! Hearing: whether a link hears an event, and what it then puts.
 ghost use Rattle.std.specs.Prelude.{◌≡◌, ◌++◌, OnOk};
 ghost use Rattle.std.specs.Option.{option_copied};
-ghost use Rattle.mh_model.specs.Items.{hears_data, hears_source, hears_type};
-ghost use Rattle.mh_work.specs.Links.{is_awake, answer};
+ghost use Rattle.mh_model.specs.Items.{hears_source, hears_type};
+ghost use Rattle.mh_work.specs.Links.{fires, answer};
 ghost use Rattle.mh_work.specs.Batches.{written};
 
 use crate::batch::Batch;
 use crate::groups::push_effect;
 use mh_base::{EventType, ObjRef, Value};
 use mh_group::Attribute;
+use mh_model::event::hears_data;
 use mh_model::held::{as_event, as_value};
-use mh_model::kinds::same_value;
 use mh_model::parts::same_ref;
 use mh_model::{Event, Object};
 use std::alloc::AllocError;
@@ -24,15 +24,15 @@ pub(crate) fn put_answer(
     ensures { OnOk result
         (written batches.new.items ≡ written batches.old.items ++ answer event.now object.now) }
 {
-    if is_awake(event, object) {
+    if fires(event, object) {
         push_effect(batches, object.fixed.get(), Attribute::LinkEffect)?;
     }
     Ok(())
 }
 
 /// Whether a link runs, and waits for the event's type, source and data.
-fn is_awake(event: &Event, link: &Object) -> bool
-    ensures { result ≡ is_awake event.now link.now }
+fn fires(event: &Event, link: &Object) -> bool
+    ensures { result ≡ fires event.now link.now }
 {
     if !link.body.running {
         return false;
@@ -62,15 +62,5 @@ fn hears_type(heard: Option<EventType>, kind: EventType) -> bool
     match heard {
         Some(heard) => heard.number() == kind.number(),
         None => false,
-    }
-}
-
-fn hears_data(heard: Option<&Value>, given: &Option<Value>) -> bool
-    ensures { result ≡ hears_data (option_copied heard.entry) given.now }
-{
-    match (heard, given) {
-        (None, _) => true,
-        (Some(heard), Some(given)) => same_value(heard, given),
-        (Some(_), None) => false,
     }
 }

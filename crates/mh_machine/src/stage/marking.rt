@@ -15,7 +15,7 @@ pub(crate) fn spoil_at(screen: &mut Screen, objects: &Objects, at: &ObjRef)
     ensures same { screen.new.planes ≡ screen.old.planes }
     ensures spoilt { Spoils (object_at at.now (all objects.now)) screen.old.marks screen.new.marks }
 {
-    if !screen.is_spoilt() {
+    if !screen.is_all_stale() {
         screen.spoil(objects.get(at));
     }
 }
@@ -51,7 +51,7 @@ pub(crate) fn spoil_others(
     ensures same { screen.new.planes ≡ screen.old.planes }
     ensures spoilt { SpoilsOthers (all objects.now) group.now stack.entry screen.old.marks screen.new.marks }
 {
-    if screen.is_spoilt() {
+    if screen.is_all_stale() {
         return;
     }
     let mut left = stack;

@@ -75,19 +75,21 @@ fn fits_params(params: &[Param], passed: &[Argument]) -> bool
     passed.is_empty()
 }
 
-fn fits_param(param: Param, argument: &Argument) -> bool
+/// Whether the argument is what the parameter takes: a value of its kind, or a variable that is named with its kind.
+pub fn fits_param(param: Param, argument: &Argument) -> bool
     ensures { result ≡ programs.fits_param param argument.now }
 {
     match (param, argument) {
-        (Param::In(plain), Argument::Direct(value)) => is_plain(plain, kind_of(value)),
+        (Param::In(plain), Argument::Direct(value)) => same_plain(plain, kind_of(value)),
         (Param::In(plain) | Param::Out(plain), Argument::Through(_, Some(kind))) => {
-            is_plain(plain, *kind)
+            same_plain(plain, *kind)
         }
         _ => false,
     }
 }
 
-fn is_plain(plain: Plain, kind: Kind) -> bool
+/// Whether the plain kind is this kind.
+pub fn same_plain(plain: Plain, kind: Kind) -> bool
     ensures { result ≡ programs.same_plain plain kind }
 {
     matches!(

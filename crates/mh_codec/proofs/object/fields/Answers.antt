@@ -20,7 +20,7 @@ pub loop-preserved : goal.loop-preserved
 loop-preserved c =
     let more = fields_more c.args.tags.now c.args.class (64 - c.loop.counter) (64 - (c.loop.counter + 1)) c.loop.last _ c.loop.fields c.push.new.self c.loop.reader _ _ _ _
     (omega arith) c.in_ok-member.ensures c.in-Some.is c.number-last.ensures c.in_ok-push.ensures.added in
-    let above = field_above c.args.tags.now c.is_table.ensures c.args.class c.loop.last c.loop.reader _ _ _ _ c.in_ok-member.ensures c.in-Some.is in
+    let above = field_above c.args.tags.now c.reveal_table.ensures c.args.class c.loop.last c.loop.reader _ _ _ _ c.in_ok-member.ensures c.in-Some.is in
     let few = number_small c.in-Some.field.attribute in
     record {
       same = more ∙ c.loop.invariant.same;

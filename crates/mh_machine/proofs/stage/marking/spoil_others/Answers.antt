@@ -6,8 +6,8 @@ use Rattle.mh_machine.specs.Marks.{SpoilsOthers}
 use Rattle.mh_machine.proofs.MarkLemmas.{others_first, others_none, others_stale}
 use Rattle.mh_machine.proofs.stage.marking.spoil_others.Goals as goal
 
-pub returns-then-is_spoilt-clause-spoilt : goal.returns-then-is_spoilt-clause-spoilt
-returns-then-is_spoilt-clause-spoilt c = others_stale (all c.args.objects.now) c.args.group.now c.args.stack c.args.screen.now.marks (c.is_spoilt.ensures c.if-is_spoilt.true)
+pub returns-then-is_all_stale-clause-spoilt : goal.returns-then-is_all_stale-clause-spoilt
+returns-then-is_all_stale-clause-spoilt c = others_stale (all c.args.objects.now) c.args.group.now c.args.stack c.args.screen.now.marks (c.is_all_stale.ensures c.if-is_all_stale.true)
 
 pub loop-at-init : goal.loop-at-init
 loop-at-init c = (refl, λ u h. h)
