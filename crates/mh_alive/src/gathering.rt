@@ -1,6 +1,6 @@
 //! One pass over the configurations that are reached.
 //!
-//! Promise: what is gathered is what the definitions of the same names say.
+//! Promise: what is gathered is what the definition that its clause names says.
 ghost use Rattle.std.specs.Prelude.{◌≡◌, [], fold, IfOk, OnOk};
 ghost use Rattle.mh_flow.specs.Solved.{IsFlowOf, flow_in};
 ghost use Rattle.mh_model.specs.Configuration.{present};

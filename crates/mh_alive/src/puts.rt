@@ -1,6 +1,6 @@
 //! Which links may be put to work.
 //!
-//! Promise: each function answers, or gathers, what the definition of the same name says.
+//! Promise: each function answers, or gathers, what the definition that its clause names says.
 ghost use Rattle.std.specs.Prelude.{◌≡◌, ◌&&◌, ◌∷◌, [], IfOk, OnOk};
 ghost use Rattle.std.specs.List.{flat_map, list_any};
 ghost use Rattle.std.specs.Option.{option_copied};

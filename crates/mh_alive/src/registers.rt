@@ -1,6 +1,6 @@
 //! Which registers scenes may have, and which keys these let through.
 //!
-//! Promise: what is gathered, and what is answered, is what the definition of the same name says.
+//! Promise: what is gathered, and what is answered, is what the definition that its clause names says.
 ghost use Rattle.std.specs.Prelude.{◌≡◌, ◌∷◌, [], map, IfOk, OnOk};
 ghost use Rattle.std.specs.List.{flat_map};
 ghost use Rattle.std.specs.Option.{option_copied};

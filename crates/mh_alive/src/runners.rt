@@ -1,6 +1,6 @@
 //! What may run.
 //!
-//! Promise: what is gathered is what the definition of the same name says.
+//! Promise: what is gathered is what the definition that its clause names says.
 ghost use Rattle.std.specs.Prelude.{◌≡◌, OnOk};
 ghost use Rattle.std.specs.List.{flat_map};
 ghost use Rattle.indexmap.specs.IndexSet.{insert_all};

@@ -1,6 +1,6 @@
 //! With which data events may come.
 //!
-//! Promise: what is gathered, and what is answered, is what the definition of the same name says.
+//! Promise: what is gathered, and what is answered, is what the definition that its clause names says.
 ghost use Rattle.std.specs.Prelude.{◌≡◌, ◌∷◌, [], None, Some, OnOk};
 ghost use Rattle.std.specs.List.{flat_map, list_any};
 ghost use Rattle.std.specs.Option.{option_copied};

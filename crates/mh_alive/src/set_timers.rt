@@ -1,6 +1,6 @@
 //! Timers, found by group and id.
 //!
-//! Promise: each function answers what the definition of the same name says.
+//! Promise: each function answers what the definition that its clause names says.
 ghost use Rattle.std.specs.Prelude.{◌≡◌, [], Some, map, IfOk};
 ghost use Rattle.std.specs.Option.{option_copied};
 ghost use Rattle.indexmap.specs.IndexSet.{insert_all};

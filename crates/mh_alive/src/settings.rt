@@ -1,6 +1,6 @@
 //! Which timers are set, and by what.
 //!
-//! Promise: what is gathered is what the definition of the same name says.
+//! Promise: what is gathered is what the definition that its clause names says.
 ghost use Rattle.std.specs.Prelude.{◌≡◌, ◌++◌, ◌∷◌, [], filter, map, IfOk, OnOk};
 ghost use Rattle.std.specs.List.{flat_map};
 ghost use Rattle.mh_laws.specs.Active.{is_active};

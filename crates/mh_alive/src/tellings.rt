@@ -1,6 +1,6 @@
 //! Which events may come of which objects, and which timers can be set.
 //!
-//! Promise: what is gathered is what the definition of the same name says.
+//! Promise: what is gathered is what the definition that its clause names says.
 ghost use Rattle.std.specs.Prelude.{◌≡◌, ◌∷◌, [], map, if◌then◌else◌, IfOk, OnOk};
 ghost use Rattle.std.specs.List.{flat_map};
 ghost use Rattle.indexmap.specs.IndexSet.{insert_all};

@@ -1,6 +1,6 @@
 //! What is present in a configuration and held there.
 //!
-//! Promise: each function answers what the definition of the same name says.
+//! Promise: each function answers what the definition that its clause names says.
 ghost use Rattle.std.specs.Prelude.{◌≡◌};
 ghost use Rattle.mh_alive.specs.There.{comes_to, names, sets_there};
 

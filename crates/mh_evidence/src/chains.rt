@@ -1,6 +1,6 @@
 //! Chains: whether links bring a reference to a variable or a list, one after another.
 //!
-//! Promise: each function answers what the definition of the same name says. To what variables refer is granted.
+//! Promise: each function answers what the definition that its clause names says. To what variables refer is granted.
 ghost use Rattle.std.specs.Prelude.{◌≡◌, ◌&&◌, false};
 ghost use Rattle.std.specs.List.{list_any};
 ghost use Rattle.std.specs.Option.{option_copied, option_map_or, option_to_list};

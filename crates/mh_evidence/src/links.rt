@@ -1,6 +1,6 @@
 //! Links: for which events they wait.
 //!
-//! Promise: each function answers what the definition of the same name says.
+//! Promise: each function answers what the definition that its clause names says.
 ghost use Rattle.std.specs.Prelude.{◌≡◌, ◌&&◌, ◌==◌};
 ghost use Rattle.std.specs.Option.{option_copied, option_eq};
 ghost use Rattle.mh_model.specs.Items.{hears_data, hears_source, hears_type};

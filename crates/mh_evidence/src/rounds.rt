@@ -1,6 +1,6 @@
 //! Rounds: arrows of a service, of which each leads to the next, and the last to the first.
 //!
-//! Promise: each function answers what the definition of the same name says.
+//! Promise: each function answers what the definition that its clause names says.
 ghost use Rattle.std.specs.Prelude.{◌≡◌, ◌&&◌};
 ghost use Rattle.std.specs.List.{list_all, list_any};
 ghost use Rattle.mh_model.specs.Configuration.{present};

@@ -1,6 +1,6 @@
 //! The orders of references and of configurations, by which the first of several is told.
 //!
-//! Promise: each function answers what the definition of the same name says.
+//! Promise: each function answers what the definition that its clause names says.
 ghost use Rattle.std.specs.Prelude.{◌≡◌};
 ghost use Rattle.std.specs.Option.{option_cmp};
 ghost use Rattle.std.specs.Ordering.{nat_cmp};

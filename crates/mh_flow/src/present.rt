@@ -1,6 +1,6 @@
 //! What is present in a configuration, and where an action leads.
 //!
-//! Promise: each function answers what the definition of the same name says.
+//! Promise: each function answers what the definition that its clause names says.
 ghost use Rattle.std.specs.Prelude.{◌≡◌, ◌<◌, ◌+◌, ◌++◌, IfOk, Some, length, slice_get};
 ghost use Rattle.std.specs.List.{Contains};
 ghost use Rattle.std.specs.Option.{option_copied};

@@ -1,6 +1,6 @@
 //! What actions come to.
 //!
-//! Promise: each function adds the price of the definition of the same name to the sum.
+//! Promise: each function adds the price that its clause names to the sum.
 ghost use Rattle.std.specs.Prelude.{◌≡◌, ◌∷◌, [], IfOk};
 ghost use Rattle.mh_laws.specs.Price.{Plus, most_price};
 ghost use Rattle.mh_laws.specs.View as spec;

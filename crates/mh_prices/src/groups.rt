@@ -1,6 +1,6 @@
 //! What it comes to that groups are entered and left.
 //!
-//! Promise: each function adds the price of the definition of the same name to the sum.
+//! Promise: each function adds the price that its clause names to the sum.
 ghost use Rattle.std.specs.Prelude.{◌≡◌, ◌&&◌, ◌∷◌, [], not, filter};
 ghost use Rattle.std.specs.Option.{option_copied, option_map_or};
 ghost use Rattle.mh_group.specs.Table.{is_runnable};

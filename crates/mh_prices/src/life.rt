@@ -1,6 +1,6 @@
 //! What it comes to that objects run and stop.
 //!
-//! Promise: each function adds the price of the definition of the same name to the sum.
+//! Promise: each function adds the price that its clause names to the sum.
 ghost use Rattle.std.specs.Option.{option_map_or};
 ghost use Rattle.mh_laws.specs.Price.{Nothing, sum_price};
 ghost use Rattle.mh_laws.specs.View as spec;

@@ -1,6 +1,6 @@
 //! A configuration that is reached, with what is held there, and how a move there is written.
 //!
-//! Promise: each function answers what the definition of the same name says.
+//! Promise: each function answers what the definition that its clause names says.
 ghost use Rattle.std.specs.Prelude.{◌≡◌, ◌++◌, ◌∷◌, [], ◌&&◌, IfOk, OnOk};
 ghost use Rattle.mh_laws.specs.Flow.{is_reference_in};
 ghost use Rattle.mh_flow.specs.Steps as spec;

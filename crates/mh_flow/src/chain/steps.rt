@@ -1,6 +1,6 @@
 //! The moves of references in a configuration.
 //!
-//! Promise: each function puts behind what is there what the definition of the same name says.
+//! Promise: each function puts behind what is there what the definition that its clause names says.
 ghost use Rattle.std.specs.Prelude.{◌≡◌, ◌++◌, OnOk};
 ghost use Rattle.std.specs.List.{flat_map};
 ghost use Rattle.mh_flow.specs.Steps as spec;

@@ -1,6 +1,6 @@
 //! What an action opens where its target comes to an object.
 //!
-//! Promise: each function puts behind what is there what the definition of the same name says.
+//! Promise: each function puts behind what is there what the definition that its clause names says.
 ghost use Rattle.std.specs.Prelude.{◌≡◌, ◌++◌, OnOk};
 ghost use Rattle.std.specs.List.{flat_map};
 ghost use Rattle.std.specs.Option.{option_copied, option_to_list};

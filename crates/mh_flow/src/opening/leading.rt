@@ -1,6 +1,6 @@
 //! What is there where one configuration leads to another.
 //!
-//! Promise: each function puts behind what is there what the definition of the same name says.
+//! Promise: each function puts behind what is there what the definition that its clause names says.
 ghost use Rattle.std.specs.Prelude.{◌≡◌, ◌++◌, ◌-◌, OnOk};
 ghost use Rattle.std.specs.Option.{option_map};
 ghost use Rattle.mh_flow.specs.Opening as spec;

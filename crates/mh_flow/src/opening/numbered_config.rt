@@ -1,6 +1,6 @@
 //! A configuration with its numbers, and what is there in members and edges.
 //!
-//! Promise: each function answers what the definition of the same name says.
+//! Promise: each function answers what the definition that its clause names says.
 ghost use Rattle.std.specs.Prelude.{◌≡◌, ◌++◌, IfOk, OnOk};
 ghost use Rattle.mh_laws.specs.Flow.{is_reference_in};
 ghost use Rattle.mh_flow.specs.Chart as numbers;

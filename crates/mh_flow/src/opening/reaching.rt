@@ -1,6 +1,6 @@
 //! What a configuration opens that is reached, and what an object opens that holds a reference.
 //!
-//! Promise: each function puts behind what is there what the definition of the same name says.
+//! Promise: each function puts behind what is there what the definition that its clause names says.
 ghost use Rattle.std.specs.Prelude.{◌≡◌, ◌++◌, ◌&&◌, Some, OnOk, map, slice_get};
 ghost use Rattle.std.specs.List.{flat_map, list_any};
 ghost use Rattle.std.specs.Option.{option_copied, option_to_list};

@@ -1,6 +1,6 @@
 //! What inputs put, object by object.
 //!
-//! Promise: each function adds the price of the definition of the same name to the sum.
+//! Promise: each function adds the price that its clause names to the sum.
 ghost use Rattle.std.specs.Prelude.{◌≡◌};
 ghost use Rattle.mh_laws.specs.Price.{Most};
 ghost use Rattle.mh_laws.specs.View.{plain_emit as plain_emit_lem};
