@@ -10,13 +10,15 @@ use Rattle.std.specs.Str.{bytes_eq}
 use Rattle.std.proofs.lemmas.Bool.Decides.{Decides-eqb, nat_tests}
 use Rattle.std.proofs.lemmas.List.{append-nil, append_assoc, length-take, map-append, reverse-append, take_all, take_more}
 use Rattle.std.proofs.lemmas.List.Elements.{filter-append}
+use Rattle.std.proofs.lemmas.List.Sums.{fold-append}
 use Rattle.std.proofs.lemmas.Map.Entries.{lookup_from_place}
 use Rattle.std.proofs.lemmas.Option.{get_or_from_slice_get, slice_get_within}
+use Rattle.indexmap.specs.IndexSet.{insert_all, insert_key}
 use Rattle.mh_base.specs.declared.obj_ref.ObjRef.{ObjRef}
 use Rattle.mh_model.specs.declared.file.Wait.{Wait}
 use Rattle.mh_model.specs.Files.{forgotten}
 use Rattle.mh_model.specs.Reference.{same_key, same_ref}
-use Rattle.mh_carousel.specs.Carried.{waiting_for}
+use Rattle.mh_carousel.specs.Carried.{awaited_names, waiting_for}
 use Rattle.mh_carousel.specs.declared.slot.Chain.{Chain}
 use Rattle.mh_carousel.specs.declared.slot.Slot.{Slot}
 use Rattle.mh_carousel.specs.Waited.{Objects, Names, is_place, wait_of, wait_at, waits_from, waits_before, name_of, name_at, newest_of, IsLast, LeadsBack, AreLinked, joined}
@@ -149,6 +151,14 @@ next_waits os ns ss p s at =
     ∙ waits_append os ns (take p ss) (s ∷ []) 0
     ∙ ap (λ (k : ℕ). waits_from os ns 0 (take p ss) ++ (wait_at os ns k s ++ [])) so_many
     ∙ ap (λ (ws : List Wait). waits_from os ns 0 (take p ss) ++ ws) (append-nil (wait_at os ns p s))
+
+-- and the file that is waited for there
+pub next_awaited : (os : Objects) (ns : Names) (ss : List Slot) (p : ℕ) (s : Slot) → slice_get ss p ≡ Some s
+    → insert_all bytes_eq (awaited_names (waits_from os ns 0 (take p ss))) (map (λ w. w.name) (wait_at os ns p s)) ≡ awaited_names (waits_from os ns 0 (take (p + 1) ss))
+next_awaited os ns ss p s at =
+    sym (fold-append (insert_key bytes_eq) [] (map (λ (w : Wait). w.name) (waits_from os ns 0 (take p ss))) (map (λ (w : Wait). w.name) (wait_at os ns p s)))
+    ∙ ap (insert_all bytes_eq []) (sym (map-append (λ (w : Wait). w.name) (waits_from os ns 0 (take p ss)) (wait_at os ns p s)))
+    ∙ ap awaited_names (sym (next_waits os ns ss p s at))
 
 abbrev has_two : List Wait → Bool
 has_two [] = false

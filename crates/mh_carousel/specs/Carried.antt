@@ -1,6 +1,7 @@
 -- The carousel, as a contract sees it.
-use Rattle.std.specs.Prelude.{ℕ, List, filter, map}
+use Rattle.std.specs.Prelude.{ℕ, List, [], filter, map}
 use Rattle.std.specs.Str.{bytes_eq}
+use Rattle.indexmap.specs.IndexSet.{insert_all}
 use Rattle.mh_base.specs.declared.obj_ref.ObjRef.{ObjRef}
 use Rattle.mh_model.specs.declared.file.File.{File}
 use Rattle.mh_model.specs.declared.file.Wait.{Wait}
@@ -23,3 +24,7 @@ files_of es = map file_of es
 -- the objects that wait for the file of this name
 abbrev pub waiting_for : List ℕ → List Wait → List ObjRef
 waiting_for name ws = map (λ w. w.object) (filter (λ w. bytes_eq w.name name) ws)
+
+-- the names of the files that these wait for, each once, in the order in which an object came to wait for one
+abbrev pub awaited_names : List Wait → List (List ℕ)
+awaited_names ws = insert_all bytes_eq [] (map (λ w. w.name) ws)

@@ -8,13 +8,13 @@ ghost use Rattle.mh_model.specs.Files.{arrived, awaited, content};
 ghost use Rattle.mh_model.specs.Files.{forgotten, is_too_large, is_too_many, with_file};
 ghost use Rattle.mh_model.specs.Step.{files_ahead};
 ghost use Rattle.mh_carousel.specs.Arrival.{arrival_refusal};
-ghost use Rattle.mh_carousel.specs.Carried.{waiting_for};
+ghost use Rattle.mh_carousel.specs.Carried.{awaited_names, waiting_for};
 
 use crate::refusal::{ArrivalError, RefusedArrival};
 use crate::waits::Waits;
 use crate::{ahead, files};
 use indexmap::IndexMap;
-use mh_base::{GroupName, ObjRef, Octets};
+use mh_base::{GroupName, ObjRef, Octets, Seq};
 use mh_events::Queue;
 use mh_model::{File, Wait};
 use std::alloc::{AllocError, Global};
@@ -140,6 +140,14 @@ impl Carousel {
         ensures { IfOk result (λ objects. objects.items ≡ waiting_for name.now self.now.waits) }
     {
         self.waits.waiting(alloc, name)
+    }
+
+    /// The names of the files for which some object waits, each once, in the order in which one came to. It takes the
+    /// longer, the more wait. Where none does it takes no memory.
+    pub fn awaited_names(&self, alloc: Global) -> Result<Seq<GroupName>, AllocError>
+        ensures { IfOk result (λ names. names ≡ awaited_names self.now.waits) }
+    {
+        self.waits.awaited_names(alloc)
     }
 
     /// Makes room for one more object that waits. Where memory is refused nothing changes.

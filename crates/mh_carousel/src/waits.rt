@@ -7,7 +7,7 @@
 ghost use Rattle.std.specs.Prelude.{◌≡◌, ◌≤◌, [], Some, OnOk, IfOk, filter};
 ghost use Rattle.std.specs.Str.{bytes_eq};
 ghost use Rattle.mh_model.specs.Files.{arrived, awaited, forgotten};
-ghost use Rattle.mh_carousel.specs.Carried.{waiting_for};
+ghost use Rattle.mh_carousel.specs.Carried.{awaited_names, waiting_for};
 ghost use Rattle.mh_carousel.specs.Waited.{joined, waits_from};
 ghost use Rattle.mh_carousel.specs.Waited as spec;
 
@@ -15,9 +15,9 @@ use crate::slot::{Chain, Slot};
 use crate::tables::{
     forget_place, keep_places, put_name, put_object, reveal_apart, start_anew, wait_at,
 };
-use crate::walking::{slot_at, waiting};
+use crate::walking::{awaited_names, slot_at, waiting};
 use indexmap::IndexMap;
-use mh_base::{GroupName, ObjRef};
+use mh_base::{GroupName, ObjRef, Seq};
 use mh_model::Wait;
 use std::alloc::{AllocError, Global};
 use std::marker::Model;
@@ -74,6 +74,14 @@ impl Waits {
             self.slots.as_slice(),
             name,
         )
+    }
+
+    /// The names of the files for which some object waits, each once, in the order in which one came to. It takes the
+    /// longer, the more wait. Where none does it takes no memory.
+    pub fn awaited_names(&self, alloc: Global) -> Result<Seq<GroupName>, AllocError>
+        ensures { IfOk result (λ names. names ≡ awaited_names self.now.waits) }
+    {
+        awaited_names(alloc, &self.objects, &self.names, self.slots.as_slice())
     }
 
     /// Makes room for one more. Where no place is left, those at which nobody waits any more are closed

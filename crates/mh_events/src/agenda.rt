@@ -121,6 +121,17 @@ impl Agenda {
         self.queue.post(input)
     }
 
+    /// Adds an input, for which there is room, at the end of the queue. It takes no memory.
+    pub fn post_reserved(&mut self, input: Input)
+        requires fits { is_late input self.old ≡ false }
+        requires room { 1 ≤ self.old.room }
+        ensures moments { self.new.moments ≡ self.old.moments }
+        ensures timers { self.new.timers ≡ self.old.timers }
+        ensures posted { self.new.queue ≡ self.old.queue ++ Waiting.Input input ∷ [] }
+    {
+        self.queue.post_reserved(input);
+    }
+
     /// Makes room for so many more in the queue.
     pub fn reserve(&mut self, count: usize) -> Result<(), AllocError>
         ensures moments { self.new.moments ≡ self.old.moments }

@@ -113,11 +113,21 @@ impl Queue {
         ensures posted { OnOk result (self.new.items ≡ self.old.items ++ Waiting.Input input ∷ []) }
         ensures kept { OnErr result (self.new.items ≡ self.old.items) }
     {
+        self.reserve(1)?;
+        self.post_reserved(input);
+        Ok(())
+    }
+
+    /// Adds an input at the end, for which there is room. It takes no memory.
+    pub fn post_reserved(&mut self, input: Input)
+        requires fits { time_ahead self.old.items + time_of (Waiting.Input input) < 2 ^ 64 }
+        requires room { 1 ≤ self.old.room }
+        ensures { self.new.items ≡ self.old.items ++ Waiting.Input input ∷ [] }
+    {
         let time = time_of(&input);
-        self.entries.push_back(Waiting::Input(input))?;
+        self.entries.push_back_reserved(Waiting::Input(input));
         self.inputs += 1;
         self.time += time;
-        Ok(())
     }
 
     /// Makes room for so many more.

@@ -11,3 +11,4 @@ pub mod SumLemmas
 pub mod TestLemmas
 pub mod TurnLemmas
 pub mod WaitingLemmas
+pub mod SealedLemmas

@@ -12,3 +12,4 @@ pub mod Sums
 pub mod Tests
 pub mod Turns
 pub mod Refusal
+pub mod Sealed

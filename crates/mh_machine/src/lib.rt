@@ -14,6 +14,7 @@ mod passing;
 mod plan;
 mod posting;
 pub mod refusal;
+mod sealed;
 mod stage;
 pub mod stepped;
 mod stepping;

@@ -1,10 +1,11 @@
 //! Looks at a machine: each answers a part of its state, for whoever tells what a machine does.
 ghost use Rattle.std.specs.Prelude.{◌≡◌, IfOk, slice_get};
 ghost use Rattle.std.specs.Option.{option_copied};
+ghost use Rattle.mh_carousel.specs.Carried.{awaited_names};
 
 use crate::Machine;
 use crate::works::Works;
-use mh_base::GroupName;
+use mh_base::{GroupName, Seq};
 use mh_display::Walk;
 use mh_events::Queue;
 use mh_model::{Act, Interaction, Item, Moments, Transition};
@@ -90,6 +91,13 @@ impl Machine {
         ensures { result.now ≡ self.now.late }
     {
         self.works.late.as_slice()
+    }
+
+    /// The names of the content files for which some object waits, each once, in the order in which one came to.
+    pub fn awaited_files(&self) -> Result<Seq<GroupName>, AllocError>
+        ensures { IfOk result (λ names. names ≡ awaited_names self.now.waits) }
+    {
+        self.works.carousel.awaited_names(self.works.alloc)
     }
 
     /// How often the screen is locked.

@@ -2,7 +2,7 @@
 ghost use Rattle.std.specs.Prelude.{◌≡◌, None, OnOk, OnErr, IfErr, IsErrAnd, MatchOption};
 ghost use Rattle.std.specs.Option.{option_copied};
 ghost use Rattle.mh_model.specs.Late.{is_late_scene, is_written_so};
-ghost use Rattle.mh_model.specs.Step.{posted, obstacle, is_not_late, is_another_group, is_past_the_last, is_in_range, is_over_size, is_over_number, has_begun, preset, preset_obstacle};
+ghost use Rattle.mh_model.specs.Step.{posted, obstacle, obstacle_if, is_not_late, is_another_group, is_past_the_last, is_in_range, is_over_size, is_over_number, has_begun, preset, preset_obstacle};
 ghost use Rattle.mh_machine.specs.Refusal.{preset_refusal};
 
 use crate::passing::refuse_file;
@@ -19,13 +19,20 @@ impl Works {
     pub fn obstacle(&self, input: &Input) -> Option<Obstacle>
         ensures { result ≡ obstacle input.now self.now.state }
     {
+        self.obstacle_if(self.is_another_group(input), input)
+    }
+
+    /// The same, where the caller says whether the file of a scene is not the one that is awaited.
+    pub(crate) fn obstacle_if(&self, differs: bool, input: &Input) -> Option<Obstacle>
+        ensures { result ≡ obstacle_if differs input.now self.now.state }
+    {
         if self.ended {
             Some(Obstacle::Ended)
         } else if !is_in_range(input) {
             Some(Obstacle::TickRange)
         } else if self.is_not_late(input) {
             Some(Obstacle::NotLate)
-        } else if self.is_another_group(input) {
+        } else if differs {
             Some(Obstacle::Differs)
         } else if is_over_size(input) {
             Some(Obstacle::TooLarge)

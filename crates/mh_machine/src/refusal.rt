@@ -41,6 +41,17 @@ pub enum RefusedWhy {
     QueueFull,
 }
 
+impl From<AllocError> for RefusedWhy {
+    ghost use Rattle.std.specs.Prelude.{◌≡◌};
+    ghost use Rattle.mh_machine.specs.declared.refusal.RefusedWhy.TheVariants.{NoMemory};
+
+    ghost from_gives = { λ _ e. e ≡ NoMemory };
+
+    fn from(_refused: AllocError) -> RefusedWhy {
+        RefusedWhy::NoMemory
+    }
+}
+
 impl RefusedWhy {
     /// The number under which it is reported; want of memory has none.
     pub fn number(self) -> Option<u32>

@@ -1,6 +1,6 @@
 use Rattle.std.proofs.Common.{arith}
 use Rattle.mh_events.proofs.CountLemmas.{inputs_within}
-use Rattle.mh_events.proofs.queue.Queue.post.Goals as goal
+use Rattle.mh_events.proofs.queue.Queue.post_reserved.Goals as goal
 
 pub overflow_add-self : goal.overflow_add-self
 overflow_add-self c =
