@@ -19,9 +19,9 @@ pub record Coming : Type 0 where
   pub room : ℕ
 
 -- a tick would lead past the last moment
-abbrev pub is_late : Input → Coming → Bool
-is_late (input.Tick n) a = not (nat_le (a.moments.present + time_ahead a.queue + n) most_moment)
-is_late _ a = false
+abbrev pub passes_the_last : Input → Coming → Bool
+passes_the_last (input.Tick n) a = not (nat_le (a.moments.present + time_ahead a.queue + n) most_moment)
+passes_the_last _ a = false
 
 -- the events of the timers that are due, as they wait
 abbrev pub fired : ℕ → List ℕ → List Timer → List Waiting

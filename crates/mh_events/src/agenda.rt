@@ -6,7 +6,7 @@ ghost use Rattle.mh_model.specs.Rules.{is_input, stays};
 ghost use Rattle.mh_model.specs.Step as spec;
 ghost use Rattle.mh_model.specs.Time.{due, is_due, set_timers, timer_event};
 ghost use Rattle.mh_model.specs.Limits.{most_inputs, most_moment};
-ghost use Rattle.mh_events.specs.Agenda.{is_late, entered, fired};
+ghost use Rattle.mh_events.specs.Agenda.{passes_the_last, entered, fired};
 
 use crate::queue::Queue;
 use crate::timers::Timers;
@@ -98,8 +98,8 @@ impl Agenda {
     }
 
     /// Whether a tick, behind all that wait, would lead past the last moment.
-    pub fn is_late(&self, input: &Input) -> bool
-        ensures { result ≡ is_late input.now self.now }
+    pub fn passes_the_last(&self, input: &Input) -> bool
+        ensures { result ≡ passes_the_last input.now self.now }
     {
         match input {
             Input::Tick(length) => {
@@ -112,7 +112,7 @@ impl Agenda {
 
     /// Adds an input at the end of the queue.
     pub fn post(&mut self, input: Input) -> Result<(), AllocError>
-        requires { is_late input self.old ≡ false }
+        requires { passes_the_last input self.old ≡ false }
         ensures moments { self.new.moments ≡ self.old.moments }
         ensures timers { self.new.timers ≡ self.old.timers }
         ensures posted { OnOk result (self.new.queue ≡ self.old.queue ++ Waiting.Input input ∷ []) }
@@ -123,7 +123,7 @@ impl Agenda {
 
     /// Adds an input, for which there is room, at the end of the queue. It takes no memory.
     pub fn post_reserved(&mut self, input: Input)
-        requires fits { is_late input self.old ≡ false }
+        requires fits { passes_the_last input self.old ≡ false }
         requires room { 1 ≤ self.old.room }
         ensures moments { self.new.moments ≡ self.old.moments }
         ensures timers { self.new.timers ≡ self.old.timers }

@@ -11,7 +11,7 @@ use Rattle.mh_model.specs.declared.object.Object.{Object}
 use Rattle.mh_model.specs.State.{State}
 use Rattle.mh_model.specs.Step.{time_ahead, obstacle, obstacle_if, is_in_range, is_not_late, is_another_group, is_over_size, is_over_number, is_past_the_last, is_full}
 use Rattle.mh_model.specs.Limits.{most_moment}
-use Rattle.mh_events.specs.Agenda.{Coming, is_late}
+use Rattle.mh_events.specs.Agenda.{Coming, passes_the_last}
 use Rattle.mh_machine.specs.Taking.{event_by}
 
 -- what nothing stands against is not too late
@@ -28,14 +28,14 @@ unbarred differs i s none = by s.ended (is_in_range i) (is_not_late i s) differs
     by false true false false false true true h = absurd cc
     by false true false false false false true h = absurd cc
 
-pub in_time_if : (differs : Bool) (i : Input) (s : State) (a : Coming) → a.moments ≡ s.moments → a.queue ≡ s.queue → obstacle_if differs i s ≡ None → is_late i a ≡ false
+pub in_time_if : (differs : Bool) (i : Input) (s : State) (a : Coming) → a.moments ≡ s.moments → a.queue ≡ s.queue → obstacle_if differs i s ≡ None → passes_the_last i a ≡ false
 in_time_if differs (input.Tick n) s a moments queue none =
     ap (λ m. not (nat_le (m.present + time_ahead a.queue + n) most_moment)) moments
     ∙ ap (λ (q : List Waiting). not (nat_le (s.moments.present + time_ahead q + n) most_moment)) queue
     ∙ unbarred differs (input.Tick n) s none
 in_time_if differs _ s a moments queue none = refl
 
-pub in_time : (i : Input) (s : State) (a : Coming) → a.moments ≡ s.moments → a.queue ≡ s.queue → obstacle i s ≡ None → is_late i a ≡ false
+pub in_time : (i : Input) (s : State) (a : Coming) → a.moments ≡ s.moments → a.queue ≡ s.queue → obstacle i s ≡ None → passes_the_last i a ≡ false
 in_time i s a moments queue none = in_time_if (is_another_group i s) i s a moments queue none
 
 -- The events of objects that are meant, object by object.

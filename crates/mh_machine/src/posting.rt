@@ -74,7 +74,7 @@ impl Works {
     fn is_past_the_last(&self, input: &Input) -> bool
         ensures { result ≡ is_past_the_last input.now self.now.state }
     {
-        self.agenda.is_late(input)
+        self.agenda.passes_the_last(input)
     }
 
     /// Whether a file has a name for which there is no room, behind all that wait.
