@@ -1,5 +1,5 @@
 //! `Agenda`: what is still to come: the timers that are set, what waits in the queue, and the present moment.
-ghost use Rattle.std.specs.Prelude.{◌≡◌, ◌+◌, ◌≤◌, ◌++◌, ◌∷◌, [], false, None, Some, OnOk, OnErr, drop, filter, map, nat_lt, not, slice_get, vec_len};
+ghost use Rattle.std.specs.Prelude.{◌≡◌, ◌+◌, ◌≤◌, ◌++◌, ◌∷◌, [], false, None, Some, IfOk, OnOk, OnErr, drop, filter, map, nat_lt, not, slice_get, vec_len};
 ghost use Rattle.std.specs.Option.{option_copied};
 ghost use Rattle.std.specs.Str.{bytes_eq};
 ghost use Rattle.mh_model.specs.Rules.{is_input, stays};
@@ -12,7 +12,7 @@ use crate::queue::Queue;
 use crate::timers::Timers;
 use crate::timing::set_timers;
 use mh_base::{GroupName, Value};
-use mh_model::{Event, Input, Moments, Waiting};
+use mh_model::{Event, Input, Moments, Timer, Waiting};
 use std::alloc::{AllocError, Global};
 use std::marker::Model;
 
@@ -67,6 +67,13 @@ impl Agenda {
         ensures { result.now ≡ self.now.moments }
     {
         &self.moments
+    }
+
+    /// Copies of the timers that are due by the last moment, in the order in which they are.
+    pub fn timers(&self, alloc: Global, application: &GroupName) -> Result<Vec<Timer>, AllocError>
+        ensures { IfOk result (λ timers. timers.items ≡ due most_moment application.now self.now.timers) }
+    {
+        self.timers.ahead(alloc, application)
     }
 
     /// What waits, in the order in which it came.

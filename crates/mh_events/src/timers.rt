@@ -5,6 +5,7 @@
 ghost use Rattle.std.specs.Prelude.{◌≡◌, ◌<◌, ◌++◌, ◌∷◌, [], false, true, IfOk, OnErr, OnOk, filter, length, map, not};
 ghost use Rattle.std.specs.Map.{values_of};
 ghost use Rattle.std.specs.Str.{bytes_eq};
+ghost use Rattle.mh_model.specs.Limits.{most_moment};
 ghost use Rattle.mh_model.specs.Time.{cancelled, due as due_lem, is_due};
 ghost use Rattle.mh_model.specs.Time.{timed, timer_event};
 ghost use Rattle.mh_events.specs.Turns.{key_of};
@@ -127,6 +128,15 @@ impl Timers {
         events_of(alloc, due)
     }
 
+    /// Copies of the timers that are due by the last moment, in the order in which they are. One that is due later is
+    /// never due.
+    pub fn ahead(&self, alloc: Global, application: &GroupName) -> Result<Vec<Timer>, AllocError>
+        ensures { IfOk result (λ timers. timers.items ≡ due_lem most_moment application.now self.now) }
+    {
+        let ahead = due_of(alloc, u32::MAX, application, &self.timers)?;
+        timers_of(alloc, ahead)
+    }
+
     /// Takes those away that are due.
     pub fn drop_due(&mut self, now: u32)
         ensures { self.new ≡ filter (λ t. not (is_due now t)) self.old }
@@ -191,6 +201,16 @@ fn events_of(alloc: Global, timers: BTreeMap<Place, Timer>) -> Result<Vec<Event>
         events.push_reserved(event_of(timer));
     }
     Ok(events)
+}
+
+fn timers_of(alloc: Global, timers: BTreeMap<Place, Timer>) -> Result<Vec<Timer>, AllocError>
+    ensures { IfOk result (λ list. list.items ≡ values_of timers.entries) }
+{
+    let mut list = Vec::with_capacity(alloc, timers.len())?;
+    for timer in timers.into_values() {
+        list.push_reserved(timer);
+    }
+    Ok(list)
 }
 
 /// The event of a timer, which has the timer's id as data.

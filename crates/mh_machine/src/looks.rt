@@ -2,13 +2,15 @@
 ghost use Rattle.std.specs.Prelude.{◌≡◌, IfOk, slice_get};
 ghost use Rattle.std.specs.Option.{option_copied};
 ghost use Rattle.mh_carousel.specs.Carried.{awaited_names};
+ghost use Rattle.mh_model.specs.Limits.{most_moment};
+ghost use Rattle.mh_model.specs.Time.{due};
 
 use crate::Machine;
 use crate::works::Works;
 use mh_base::{GroupName, Seq};
 use mh_display::Walk;
 use mh_events::Queue;
-use mh_model::{Act, Interaction, Item, Moments, Transition};
+use mh_model::{Act, Interaction, Item, Moments, Timer, Transition};
 use mh_service::Service;
 use mh_store::Objects;
 use mh_work::Front;
@@ -77,6 +79,15 @@ impl Machine {
         ensures { result.now ≡ self.now.moments }
     {
         self.works.agenda.moments()
+    }
+
+    /// Copies of the timers that are set and are due by the last moment, in the order in which they are due.
+    pub fn timers(&self) -> Result<Vec<Timer>, AllocError>
+        ensures { IfOk result (λ timers. timers.items ≡ due most_moment self.now.application self.now.timers) }
+    {
+        self.works
+            .agenda
+            .timers(self.works.alloc, &self.works.application)
     }
 
     /// Whether a transition has begun, or waits for its scene.
