@@ -77,7 +77,7 @@ spelled_alike tags digest table x y fit allowed own other e =
     spells_one tags table (group tags x) x y fit allowed (refl, a.0, a.1) (e, a.0, b.1)
 
 -- a group has the digest of the service's own just where it is the same
-digest_tells : (tags : Tags) (digest : List ℕ → List ℕ) → IsTable tags → (x y : Written) → is_group x ≡ true → is_group y ≡ true → is_spelled tags digest y ≡ true → is_collision tags digest x y ≡ false → has_digest tags digest x (Some (digest_of tags digest y)) ≡ same_group x y
+pub digest_tells : (tags : Tags) (digest : List ℕ → List ℕ) → IsTable tags → (x y : Written) → is_group x ≡ true → is_group y ≡ true → is_spelled tags digest y ≡ true → is_collision tags digest x y ≡ false → has_digest tags digest x (Some (digest_of tags digest y)) ≡ same_group x y
 digest_tells tags digest table x y fit allowed spelled none = by (same_group x y) refl
   where
     dx : List ℕ

@@ -32,7 +32,7 @@ small [] all k = let none : slice_index [] k ≡ 0 = refl in omega (arith, none)
 small (t ∷ ts) all zero = ltb-true t (2 ^ 16) (and_left (nat_lt t (2 ^ 16)) (list_all (λ x. nat_lt x (2 ^ 16)) ts) all)
 small (t ∷ ts) all (suc k) = small ts (and_right (nat_lt t (2 ^ 16)) (list_all (λ x. nat_lt x (2 ^ 16)) ts) all) k
 
-profile_is_table : IsTable profile
+pub profile_is_table : IsTable profile
 profile_is_table = record {
   classes = record { full = refl; small = small profile.classes refl; single = refl };
   attributes = record { full = refl; small = small profile.attributes refl; single = refl };
