@@ -34,6 +34,7 @@ unfilled_told None b why y e is told =
     ap unfilled both.1 ∙ differs_alone y (sym both.0 ∙ told)
   where
     never : (z : Obstacle) → refused.NoMemory ≡ refusal_for z → ⊥
+    never obstacle.Ended h = absurd cc
     never _ h = absurd cc
 
     never_memory : (z : Obstacle) (w : RefusedWhy) → w ≡ refusal_for z → w ≢ refused.NoMemory
