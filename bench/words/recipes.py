@@ -9,7 +9,7 @@ import sys
 
 PAGE = "docs/WRITING.md"
 RECIPES = "examples/recipes"
-TESTS = "crates/mh_tests_cases/data/cases/recipes.cases"
+TESTS = "crates/mh_tests_cases/data/cases/redplay/recipes.cases"
 
 
 def text(path):
