@@ -1,7 +1,6 @@
 -- A header, a line further.
 use Rattle.std.specs.Prelude.{◌≡◌, ◌≢◌, ℕ, zero, suc, ◌+◌, ◌-◌, ◌<◌, List, drop, Option, refl}
 use Rattle.std.proofs.Common.{ap, ◌∙◌, sym, arith}
-use Rattle.mh_protocol.specs.declared.head.Head.{Head}
 use Rattle.mh_protocol.specs.declared.head.Step.TheVariants as step_is
 use Rattle.mh_protocol.specs.Heads.{after, head_in, step}
 

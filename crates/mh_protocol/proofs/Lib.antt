@@ -1,3 +1,5 @@
+mod BackLemmas
+mod FrameLemmas
 mod HeadLemmas
 mod NumberLemmas
 mod PositionLemmas

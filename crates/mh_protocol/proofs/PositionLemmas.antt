@@ -1,5 +1,5 @@
 -- Places that are counted on from others.
-use Rattle.std.specs.Prelude.{◌≡◌, ◌≢◌, ℕ, zero, suc, ◌+◌, ◌-◌, ◌*◌, ◌<◌, ◌≤◌, ◌==◌, Bool, true, false, if◌then◌else◌, List, [], ◌∷◌, drop, length, refl}
+use Rattle.std.specs.Prelude.{◌≡◌, ◌≢◌, ℕ, ◌+◌, ◌-◌, ◌*◌, ◌<◌, ◌≤◌, ◌==◌, Bool, if◌then◌else◌, List, [], ◌∷◌, drop, length, refl}
 use Rattle.std.proofs.Common.{ap, inl, inr, ◌∙◌, sym, add-zero, arith, get_or}
 use Rattle.std.proofs.lemmas.Bool.Decides.{eqb_tells}
 use Rattle.std.proofs.lemmas.List.{at_drop_more}
@@ -30,7 +30,7 @@ onto_next e p q b bs = grind arith
 pub onto_stopped : (e : Unit) (p : Position) (n : ℕ) (bs : List ℕ) → n ≡ 0 → onto p (position_in e n bs) ≡ p
 onto_stopped e p n bs none = ap (onto p) (position_stops e n bs none) ∙ onto_first p
 
-position_more : (e : Unit) (n b : ℕ) (bs : List ℕ) → n ≢ 0 → position_in e n (b ∷ bs) ≡ further (ends_line b bs) (units e b) (position_in e (n - 1) bs)
+pub position_more : (e : Unit) (n b : ℕ) (bs : List ℕ) → n ≢ 0 → position_in e n (b ∷ bs) ≡ further (ends_line b bs) (units e b) (position_in e (n - 1) bs)
 position_more e n b bs some = elim (eqb_tells n 0) [
   | inl h ↦ absurd (some h.1)
   | inr h ↦ ap (λ (c : Bool). if c then at_first else further (ends_line b bs) (units e b) (position_in e (n - 1) bs)) h.0

@@ -1,5 +1,5 @@
 -- What stands in a message, by a path of names.
-use Rattle.std.specs.Prelude.{ℕ, Bool, false, List, Option, Some, None, codes, option_and_then, option_map, unwrap_or}
+use Rattle.std.specs.Prelude.{ℕ, Bool, false, List, Option, codes, option_and_then, option_map, unwrap_or}
 use Rattle.serde_json.specs.Data.{Data}
 use Rattle.serde_json.specs.Find.{as_bool, as_number, as_str, as_u64, pointer}
 use Rattle.mh_protocol.specs.declared.edit.Range.{Range}

@@ -1,5 +1,5 @@
 -- Places in a text, as the protocol counts them: the line, from 0 on, and how many units of that stand in front.
-use Rattle.std.specs.Prelude.{ℕ, ◌+◌, ◌-◌, ◌==◌, nat_le, nat_lt, Bool, true, false, ◌&&◌, ◌||◌, not, if◌then◌else◌, List, [], ◌∷◌, drop}
+use Rattle.std.specs.Prelude.{◌≡◌, ℕ, zero, suc, ◌+◌, ◌-◌, ◌==◌, nat_le, nat_lt, Bool, true, false, ◌&&◌, ◌||◌, not, if◌then◌else◌, List, [], ◌∷◌, drop}
 use Rattle.mh_protocol.specs.declared.position.Unit.{Unit}
 use Rattle.mh_protocol.specs.declared.position.Unit.TheVariants as unit
 use Rattle.mh_protocol.specs.declared.position.Position.{Position}
@@ -56,3 +56,25 @@ abbrev pub behind_by : Unit → Position → ℕ → List ℕ → Position
 behind_by e p b bs =
     if ends_line b bs then record { line = p.line + 1; character = 0 }
     else record { line = p.line; character = p.character + units e b }
+
+-- THE LAW
+
+-- a character begins there, or nothing stands there
+abbrev pub starts : Unit → List ℕ → Bool
+starts e [] = true
+starts e (b ∷ bs) = nat_lt 0 (units e b)
+
+-- right behind this byte it is between the two bytes with which a line ends; further on it is not
+abbrev pub is_split : ℕ → ℕ → List ℕ → Bool
+is_split zero b bs = b == 13 && begins_with_feed bs
+is_split (suc n) b bs = false
+
+-- behind so many bytes a character begins, or the text ends; and it is not between the two bytes with which a line ends
+abbrev pub is_boundary : Unit → ℕ → List ℕ → Bool
+is_boundary e zero bs = starts e bs
+is_boundary e (suc n) [] = false
+is_boundary e (suc n) (b ∷ bs) = is_boundary e n bs && not (is_split n b bs)
+
+-- a place leads back to where it was counted
+abbrev pub PlacesLeadBack : Type 0
+PlacesLeadBack = (e : Unit) (n : ℕ) (bs : List ℕ) → is_boundary e n bs ≡ true → offset_in e (position_in e n bs) bs ≡ n

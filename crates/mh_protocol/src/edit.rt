@@ -29,7 +29,12 @@ pub fn edited(
 }
 
 /// Three texts as one.
-fn joined(alloc: Global, front: &[u8], new: &[u8], behind: &[u8]) -> Result<Vec<u8>, AllocError>
+pub(crate) fn joined(
+    alloc: Global,
+    front: &[u8],
+    new: &[u8],
+    behind: &[u8],
+) -> Result<Vec<u8>, AllocError>
     ensures { IfOk result (λ found. found.items ≡ front.now ++ new.now ++ behind.now) }
 {
     let mut found = Vec::new(alloc);

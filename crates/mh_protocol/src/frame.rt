@@ -1,15 +1,44 @@
 //! A message in its frame: a header says how long it is, and it stands right behind that.
-ghost use Rattle.std.specs.Prelude.{◌≡◌};
-ghost use Rattle.std.specs.Prelude.{length};
+ghost use Rattle.std.specs.Prelude.{◌≡◌, decimal, string_bytes, IfOk};
+ghost use Rattle.mh_protocol.specs.Frames.{FramesReadBack};
 ghost use Rattle.mh_protocol.specs.Frames as spec;
 
+use crate::edit::joined;
 use crate::head::{Head, head_in};
+use serde_json::Value;
+use std::alloc::{AllocError, Global};
 
 /// The longest message that is read: 4 MiB.
 const LARGEST_MESSAGE: usize = 4194304;
 
 /// The most lines of a header.
 const MOST_LINES: usize = 16;
+
+/// What the header of a message begins with.
+const LENGTH_NAME: &[u8] = b"Content-Length: ";
+
+/// What it ends with: the end of its line, and an empty line.
+const HEAD_END: &[u8] = b"\r\n\r\n";
+
+/// A message in its frame is read as that message.
+pub fn frames_read_back()
+    ensures { FramesReadBack }
+{}
+
+/// The header of a message of so many bytes.
+#[tactic(auto, unfolding(crate::specs::Frames::head_text))]
+pub fn head_for(alloc: Global, length: usize) -> Result<Vec<u8>, AllocError>
+    ensures { IfOk result (λ head. head.items ≡ spec.head_text length) }
+{
+    let digits = digits_of(alloc, length)?;
+    joined(alloc, LENGTH_NAME, digits.as_bytes(), HEAD_END)
+}
+
+fn digits_of(alloc: Global, number: usize) -> Result<String, AllocError>
+    ensures { IfOk result (λ digits. string_bytes digits ≡ decimal number) }
+{
+    Value::from(number as u64).to_string(alloc)
+}
 
 /// What stands at the front of what came.
 #[derive(Clone, Copy)]

@@ -14,7 +14,7 @@ mod uri;
 
 pub use asked::{is_set, number_at, place_at, position_of, range_of, text_at};
 pub use edit::{Range, edited};
-pub use frame::{Frame, frame_in};
-pub use position::{Position, Unit, offset_at, position_at};
+pub use frame::{Frame, frame_in, frames_read_back, head_for};
+pub use position::{Position, Unit, offset_at, places_lead_back, position_at};
 pub use told::{Fault, answer, notice, position_value, range_value, refusal};
 pub use uri::{escaped, unescaped};

@@ -1,6 +1,11 @@
 //! Places in a text, as the protocol counts them.
 ghost use Rattle.std.specs.Prelude.{◌≡◌, ◌≤◌, ◌<◌, ◌+◌, ◌^◌, drop, length};
-ghost use Rattle.mh_protocol.specs.Positions.{behind_by, ends_line, is_end, line_start, offset_in, position_in, reach, begins_with_feed, units};
+ghost use Rattle.mh_protocol.specs.Positions.{PlacesLeadBack, behind_by, ends_line, is_end, line_start, offset_in, position_in, reach, begins_with_feed, units};
+
+/// A place leads back to where it was counted.
+pub fn places_lead_back()
+    ensures { PlacesLeadBack }
+{}
 
 /// What a line is counted in.
 #[derive(Clone, Copy, PartialEq, Eq)]

@@ -1,4 +1,4 @@
-use Rattle.std.proofs.Common.{ap, ◌∙◌, sym, refl, get_or}
+use Rattle.std.proofs.Common.{◌∙◌, sym, refl, get_or}
 use Rattle.mh_protocol.proofs.PositionLemmas.{lines_rise, onto_stopped, units_rise, walked}
 use Rattle.mh_protocol.proofs.position.position_at.Goals as goal
 

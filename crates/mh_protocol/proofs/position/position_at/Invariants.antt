@@ -1,4 +1,4 @@
-use Rattle.std.proofs.Common.{◌≡◌, ◌+◌, ◌*◌, ◌≤◌, drop}
+use Rattle.std.proofs.Common.{◌≡◌, ◌*◌, ◌≤◌, drop}
 use Rattle.mh_protocol.specs.Positions.{position_in}
 use Rattle.mh_protocol.proofs.PositionLemmas.{onto}
 use Rattle.mh_protocol.proofs.position.position_at.Given as goal
