@@ -15,6 +15,7 @@ use Rattle.mh_lint.specs.declared.rule.Rule.TheVariants as rule
 use Rattle.mh_lint.specs.Rules.{rule_named, rule_word, rules}
 use Rattle.mh_misread.specs.Likeness.{is_like}
 use Rattle.mh_look.specs.declared.command_line.Explain.{Explain}
+use Rattle.mh_look.specs.declared.command_line.Lint.{Lint}
 use Rattle.mh_look.specs.declared.command_line.Task.{Task}
 use Rattle.mh_look.specs.declared.command_line.Task.TheVariants as task
 
@@ -65,6 +66,10 @@ all = flag (codes "all")
 abbrev pub allow : Rule
 allow = record (new_rule (codes "allow")) { long = Some (codes "allow"); action = Some Append; value_names = 1 }
 
+-- the form of findings: the words that there are for that are not told by `clap`
+abbrev pub format : Rule
+format = record (named (codes "format")) { defaults = codes "text" ∷ [] }
+
 -- The subcommands.
 
 abbrev pub show : App
@@ -96,14 +101,26 @@ lint_service = with_choices (with_rule (new_app (codes "lint")) folder)
 abbrev pub lint : App
 lint = with_rule (with_rule (with_rule lint_service all) allow) color
 
+abbrev pub check_service : App
+check_service = with_choices (with_rule (new_app (codes "check")) folder)
+
+abbrev pub check_rules : App
+check_rules = with_rule (with_rule check_service all) allow
+
+abbrev pub check : App
+check = with_rule (with_rule check_rules format) color
+
 abbrev pub with_views : App
 with_views = with_subcommand (with_subcommand (bare (codes "redlook")) show.top) page.top
 
 abbrev pub with_reports : App
 with_reports = with_subcommand (with_subcommand with_views image.top) diff.top
 
+abbrev pub with_services : App
+with_services = with_subcommand (with_subcommand with_reports why.top) lint.top
+
 abbrev pub program : App
-program = with_subcommand (with_subcommand with_reports why.top) lint.top
+program = with_subcommand with_services check.top
 
 -- What is asked for.
 
@@ -118,13 +135,21 @@ pub record Explained : Type 0 where
   pub costs : Bool
   pub color : Text
 
+-- what is looked for in a service
+pub record Looked : Type 0 where
+  pub service : Explained
+  pub all : Bool
+  pub allowed : Allowed
+  pub unknown : Option Text
+
 pub data Asked : Type 0 where
   shown : (report : Text) (frame : Option ℕ) (plain : Bool) → Asked
   paged : (report : Text) (script : Option Text) → Asked
   drawn : (report : Text) (frame : Option ℕ) (folder : Option Text) → Asked
   compared : (first second : Text) (lines : Bool) → Asked
   explained : Explained → Asked
-  linted : (service : Explained) (all : Bool) (allowed : Allowed) (unknown : Option Text) → Asked
+  linted : Looked → Asked
+  judged : (looked : Looked) (format : Text) → Asked
 
 abbrev pub frame_of : List Row → Option ℕ
 frame_of rows = option_map (number_in last_frame 0) (first_of (codes "frame") rows)
@@ -208,8 +233,14 @@ is_no_rule name = is_none (rule_named name)
 abbrev pub unknown : List Row → Option Text
 unknown rows = find is_no_rule (unwrap_or (all_of (codes "allow") rows) [])
 
+abbrev pub looking : List Row → Looked
+looking rows = record { service = service_of rows; all = is_set (codes "all") rows; allowed = allowed rows; unknown = unknown rows }
+
 abbrev pub linting : List Row → Asked
-linting rows = linted (service_of rows) (is_set (codes "all") rows) (allowed rows) (unknown rows)
+linting rows = linted (looking rows)
+
+abbrev pub checking : List Row → Asked
+checking rows = judged (looking rows) (text_of (codes "format") rows)
 
 -- the rule that is meant by a name, if one is like it
 
@@ -226,7 +257,8 @@ asked_under name rows =
     else (if bytes_eq name (codes "image") then drawing rows
     else (if bytes_eq name (codes "diff") then comparing rows
     else (if bytes_eq name (codes "why") then explaining rows
-    else (if bytes_eq name (codes "lint") then linting rows else paging rows))))
+    else (if bytes_eq name (codes "lint") then linting rows
+    else (if bytes_eq name (codes "check") then checking rows else paging rows)))))
 
 -- one subcommand is required
 abbrev pub asked_by : Option (Text × List Row) → Asked
@@ -245,6 +277,9 @@ explained_as e = record {
   color = e.color.now;
 }
 
+abbrev pub looked_as : Lint → Looked
+looked_as l = record { service = explained_as l.service; all = l.asked.all; allowed = l.asked.allowed; unknown = named_in l.unknown }
+
 -- what a task says
 abbrev pub said : Task → Asked
 said (task.Show report frame plain) = shown report.now frame plain
@@ -252,4 +287,5 @@ said (task.Page report script) = paged report.now (named_in script)
 said (task.Image report frame folder) = drawn report.now frame (named_in folder)
 said (task.Diff first second lines) = compared first.now second.now lines
 said (task.Why e) = explained (explained_as e)
-said (task.Lint l) = linted (explained_as l.service) l.asked.all l.asked.allowed (named_in l.unknown)
+said (task.Lint l) = linted (looked_as l)
+said (task.Check k) = judged (looked_as k.lint) k.format.now

@@ -16,7 +16,7 @@ ghost use Rattle.mh_look.specs.CommandLine.{asked_by, asked_under, folder_of, fr
 ghost use Rattle.mh_look.specs.CommandLine as spec;
 
 use crate::command_line::arguments::LAST_FRAME;
-use crate::command_line::linting::linting;
+use crate::command_line::linting::{checking, linting};
 use crate::command_line::program::program;
 use clap::ArgMatches;
 use mh_command::values::{file_of, is_set, number_in, text_of};
@@ -55,6 +55,16 @@ pub enum Task<'a> {
     Why(Explain<'a>),
     /// What of a service never happens, and what is noted of it.
     Lint(Lint<'a>),
+    /// All that is found of a service.
+    Check(Check<'a>),
+}
+
+/// What is looked for in a service, and in which form it is told.
+#[derive(Drop)]
+pub struct Check<'a> {
+    pub lint: Lint<'a>,
+    /// The form.
+    pub format: &'a str,
 }
 
 /// What is looked for in a service.
@@ -124,6 +134,7 @@ fn task_under<'a>(name: &str, given: &ArgMatches<'a>) -> Task<'a>
         "diff" => comparing(given),
         "why" => explaining(given),
         "lint" => linting(given),
+        "check" => checking(given),
         _ => paging(given),
     }
 }

@@ -1,11 +1,13 @@
 //! What is done for each subcommand: a report is read whole, and then what is asked for is written.
 
 pub mod answering;
+pub mod checking;
 pub(crate) mod explaining;
 pub(crate) mod linting;
 
 use crate::command_line::Task;
 use crate::comparison::compared;
+use crate::doing::checking::checked;
 use crate::doing::explaining::explained;
 use crate::doing::linting::linted;
 use crate::image::image_of;
@@ -74,6 +76,7 @@ pub fn done<R: Runtime + AllocGlobal>(
         } => held(rt, first, second, *lines),
         Task::Why(asked) => explained(rt, asked, is_terminal),
         Task::Lint(wanted) => linted(rt, wanted, is_terminal),
+        Task::Check(wanted) => checked(rt, wanted, is_terminal),
     }
 }
 

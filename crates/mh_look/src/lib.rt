@@ -15,11 +15,12 @@ mod report;
 mod show;
 mod source;
 
-pub use command_line::{Explain, Lint, Task, line_of};
+pub use command_line::{Check, Explain, Lint, Task, line_of};
 pub use comparison::difference::{Difference, changed_cells, compare, first_difference};
 pub use comparison::telling::told;
 pub use comparison::{Comparison, compared};
 pub use doing::answering::{Answer, Read, answer_of};
+pub use doing::checking::{format_named, list_of};
 pub use doing::{Outcome, done};
 pub use image::checksum::{Adler, Crc};
 pub use image::font::is_inked;

@@ -27,6 +27,9 @@ pub enum Failure {
     /// When to write in colours is told by no such word.
     #[error("--color is auto, always or never, and not {0}")]
     NoWhen(String),
+    /// A form of findings is told by no such word.
+    #[error("--format is text, short, json or github, and not {0}")]
+    NoForm(String),
     /// No rule has this name; the rule that is meant.
     #[error("--allow names a rule, and {0} is none; the nearest is {1}")]
     NoRule(String, String),
@@ -165,6 +168,14 @@ pub(crate) fn unknown(alloc: Global, name: &str) -> Failure {
 pub(crate) fn uncoloured(alloc: Global, word: &str) -> Failure {
     match String::from_str(alloc, word) {
         Ok(word) => Failure::NoWhen(word),
+        Err(_) => Failure::Failed,
+    }
+}
+
+/// This word names no form of findings.
+pub(crate) fn unformed(alloc: Global, word: &str) -> Failure {
+    match String::from_str(alloc, word) {
+        Ok(word) => Failure::NoForm(word),
         Err(_) => Failure::Failed,
     }
 }

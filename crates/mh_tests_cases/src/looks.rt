@@ -1,8 +1,10 @@
-//! What `redlook why` and `redlook lint` write.
+//! What `redlook why`, `redlook lint` and `redlook check` write.
 use crate::plays::copied;
 use mh_case_files::{Answer, Call, File, Material};
 use mh_folder::Folder;
-use mh_look::{Explain, Failure, Lint, Read, Task, answer_of, line_of};
+use mh_look::{
+    Check, Explain, Failure, Lint, Read, Task, answer_of, format_named, line_of, list_of,
+};
 use mh_told::text::Text;
 use mh_why::lint_of;
 use std::alloc::{AllocError, Global};
@@ -16,6 +18,7 @@ pub fn answer(alloc: Global, material: &Material, call: &Call) -> Option<Answer>
     match line_of(alloc, words.as_slice()).ok()? {
         Task::Why(asked) => explained(alloc, material, &asked),
         Task::Lint(wanted) => linted(alloc, material, &wanted),
+        Task::Check(wanted) => checked(alloc, material, &wanted),
         _ => None,
     }
 }
@@ -114,4 +117,15 @@ fn lines_on(alloc: Global, material: &Material, wanted: &Lint<'_>) -> Option<Opt
         wanted.asked,
     )
     .ok()
+}
+
+/// The list of what is found, in the form that is asked for; a text is that of `lint`.
+fn checked(alloc: Global, material: &Material, wanted: &Check<'_>) -> Option<Answer> {
+    let Some(format) = format_named(wanted.format) else {
+        return linted(alloc, material, &wanted.lint);
+    };
+    let given = read_of(alloc, material)?;
+    let folder = folder_of(alloc, material)?;
+    let answer = list_of(alloc, wanted, format, &given, &folder).ok()?;
+    of_text(alloc, &answer.text, answer.outcome.exit().code())
 }

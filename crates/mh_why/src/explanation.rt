@@ -7,10 +7,10 @@
 //! `bound` and what makes them dear in `way`, what cannot be read in `unread`, a fault in `fault`. Where it
 //! stands is shown by `place`.
 
-pub(crate) mod advice;
+pub mod advice;
 pub(crate) mod bound;
 pub mod case;
-pub(crate) mod circle;
+pub mod circle;
 pub(crate) mod fault;
 pub(crate) mod ground;
 pub(crate) mod keyword;
@@ -19,11 +19,11 @@ pub(crate) mod meant;
 pub(crate) mod more;
 pub(crate) mod object;
 pub(crate) mod past;
-pub(crate) mod place;
+pub mod place;
 pub(crate) mod refused;
-pub(crate) mod service;
+pub mod service;
 pub(crate) mod through;
-pub(crate) mod token;
+pub mod token;
 pub(crate) mod unread;
 pub(crate) mod variable;
 pub(crate) mod way;

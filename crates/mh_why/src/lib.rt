@@ -6,7 +6,7 @@
 //! terminal no order. Where the bytes come from, and where the text goes, is left to `mh_look`.
 #![tactic(auto)]
 
-mod explanation;
+pub mod explanation;
 mod files;
 mod lint;
 mod numbers;

@@ -18,6 +18,9 @@ const REPORT: &str = "The file with the report, or `-`";
 /// When an explanation is written in colours where nothing is said of it.
 const WHEN: &str = "auto";
 
+/// In which form findings are told where nothing is said of it.
+const TEXT: &str = "text";
+
 /// The largest number that a frame can be asked for under.
 pub const LAST_FRAME: u64 = 1_000_000_000;
 
@@ -134,4 +137,13 @@ pub(crate) fn allow<'a>(alloc: Global) -> Arg<'a>
         .action(ArgAction::Append)
         .value_name("RULE")
         .help("Turn a rule of notes off, for all files")
+}
+
+pub(crate) fn format<'a>(alloc: Global) -> Arg<'a>
+    ensures rule { rule_of result ≡ spec.format }
+    ensures local { result.global ≡ false }
+{
+    named(alloc, "format", "FORM").default_value(TEXT).help(
+        "The form of findings: text; short, a line each as compilers print them; json; or github, annotations",
+    )
 }

@@ -1,4 +1,4 @@
-//! What the words of `lint` ask for.
+//! What the words of `lint` and `check` ask for.
 //!
 //! Promise: each function answers what the definition of its name in `specs/CommandLine` says.
 ghost use Rattle.std.specs.Prelude.{◌≡◌};
@@ -6,10 +6,10 @@ ghost use Rattle.std.specs.List.{find, list_any};
 ghost use Rattle.std.specs.Str.{bytes_eq};
 ghost use Rattle.clap.specs.Words.{found_of, rows_of};
 ghost use Rattle.mh_command.specs.Values.{named_in};
-ghost use Rattle.mh_look.specs.CommandLine.{explained_as, said};
+ghost use Rattle.mh_look.specs.CommandLine.{explained_as, looked_as, said};
 ghost use Rattle.mh_look.specs.CommandLine as spec;
 
-use crate::command_line::{Explain, Lint, Task};
+use crate::command_line::{Check, Explain, Lint, Task};
 use clap::ArgMatches;
 use mh_command::source_of;
 use mh_command::values::{is_set, text_of};
@@ -20,15 +20,31 @@ use mh_misread::is_like;
 pub(crate) fn linting<'a>(given: &ArgMatches<'a>) -> Task<'a>
     ensures { said result ≡ spec.linting (rows_of (found_of given.now)) }
 {
+    Task::Lint(looking(given))
+}
+
+/// What is looked for, and in which form it is told.
+pub(crate) fn checking<'a>(given: &ArgMatches<'a>) -> Task<'a>
+    ensures { said result ≡ spec.checking (rows_of (found_of given.now)) }
+{
+    Task::Check(Check {
+        lint: looking(given),
+        format: text_of(given, "format"),
+    })
+}
+
+fn looking<'a>(given: &ArgMatches<'a>) -> Lint<'a>
+    ensures { looked_as result ≡ spec.looking (rows_of (found_of given.now)) }
+{
     let asked = Asked {
         all: is_set(given, "all"),
         allowed: allowed(given),
     };
-    Task::Lint(Lint {
+    Lint {
         service: service_of(given),
         asked,
         unknown: unknown(given),
-    })
+    }
 }
 
 /// The service that is looked at: nothing was printed of it, and no script is known.

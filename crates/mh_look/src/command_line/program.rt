@@ -9,7 +9,7 @@ ghost use Rattle.mh_command.specs.Arguments.{folder};
 ghost use Rattle.mh_look.specs.CommandLine as spec;
 
 use crate::command_line::arguments::{
-    all, allow, color, costs, frame, lines, other, output, plain, report, script, subject,
+    all, allow, color, costs, format, frame, lines, other, output, plain, report, script, subject,
     subject_folder,
 };
 use clap::Command;
@@ -61,9 +61,30 @@ Examples:
   redlook lint examples/vote/service
   redlook lint examples/vote/service --allow no-actions";
 
+/// What is told behind the help of `check`.
+const CHECK_EXAMPLES: &str =
+    "It tells what of the files cannot be read; or else what the verifier refuses; or else what
+never happens, and what seems to be a mistake. Text is that of `why` or of `lint`.
+
+Exit status:
+  0  the service is accepted, and nothing is found
+  1  something is found, or the verifier refuses the service
+  2  a file, the service or the command line cannot be read
+
+Examples:
+  redlook check examples/vote/service
+  redlook check examples/broken/service --format short";
+
 /// The program with all its subcommands.
 pub fn program<'a>(alloc: Global) -> Result<Command<'a>, AllocError>
     ensures { IfOk result (λ c. app_of c ≡ spec.program) }
+{
+    with_services(alloc)?.subcommand(check(alloc)?)
+}
+
+/// The program with the subcommands that take reports, and with those that tell of a service in words.
+fn with_services<'a>(alloc: Global) -> Result<Command<'a>, AllocError>
+    ensures { IfOk result (λ c. app_of c ≡ spec.with_services) }
 {
     with_reports(alloc)?
         .subcommand(why(alloc)?)?
@@ -165,6 +186,43 @@ fn lint<'a>(alloc: Global) -> Result<Command<'a>, AllocError>
         .arg(all(alloc))?
         .arg(allow(alloc))?
         .arg(color(alloc))
+}
+
+fn check<'a>(alloc: Global) -> Result<Command<'a>, AllocError>
+    ensures app { IfOk result (λ c. app_of c ≡ spec.check) }
+    ensures local { IfOk result (λ c. (fields_of c).has_globals ≡ false) }
+{
+    check_rules(alloc)?.arg(format(alloc))?.arg(color(alloc))
+}
+
+/// The subcommand with what is told of an accepted service.
+fn check_rules<'a>(alloc: Global) -> Result<Command<'a>, AllocError>
+    ensures app { IfOk result (λ c. app_of c ≡ spec.check_rules) }
+    ensures local { IfOk result (λ c. (fields_of c).has_globals ≡ false) }
+{
+    check_service(alloc)?.arg(all(alloc))?.arg(allow(alloc))
+}
+
+/// The subcommand with what may be said of the service that is looked at.
+fn check_service<'a>(alloc: Global) -> Result<Command<'a>, AllocError>
+    ensures app { IfOk result (λ c. app_of c ≡ spec.check_service) }
+    ensures local { IfOk result (λ c. (fields_of c).has_globals ≡ false) }
+{
+    with_choices(alloc, check_folder(alloc)?, START, TAGS)
+}
+
+/// The subcommand with the folder that is looked at.
+fn check_folder<'a>(alloc: Global) -> Result<Command<'a>, AllocError>
+    ensures app { IfOk result (λ c. app_of c ≡ with_rule (new_app (codes "check")) folder) }
+    ensures local { IfOk result (λ c. (fields_of c).has_globals ≡ false) }
+{
+    described(
+        alloc,
+        "check",
+        "Tells all that is found of a service, for readers, editors or build servers: what cannot be read, or is refused, or never happens or seems to be a mistake",
+        CHECK_EXAMPLES,
+    )
+    .arg(folder(alloc, FOLDER))
 }
 
 /// The subcommand with what may be said of the service that is looked at.

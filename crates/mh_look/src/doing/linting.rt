@@ -83,7 +83,7 @@ fn outcome_of(text: &Text) -> Outcome {
 }
 
 /// This name is that of no rule.
-fn no_rule(alloc: Global, name: &str) -> Result<Failure, AllocError> {
+pub(crate) fn no_rule(alloc: Global, name: &str) -> Result<Failure, AllocError> {
     let written = String::from_str(alloc, name)?;
     Ok(match near_rule(name.as_bytes()) {
         Some(rule) => Failure::NoRule(written, text_of(alloc, rule.word())?),

@@ -28,7 +28,7 @@ pub(crate) fn put_advice(
 }
 
 /// The first row for this word, if there is one.
-pub(crate) fn row_with<'a>(rows: &'a [[&'a [u8]; 3]], word: &[u8]) -> Option<&'a [&'a [u8]; 3]>
+pub fn row_with<'a>(rows: &'a [[&'a [u8]; 3]], word: &[u8]) -> Option<&'a [&'a [u8]; 3]>
     ensures { option_map (λ row. cells row.now) result ≡ row_with (map cells rows.now) word.now }
 {
     let mut left = rows;
@@ -49,37 +49,51 @@ pub(crate) fn cell<'a>(row: &[&'a [u8]; 3], at: usize) -> &'a [u8]
     row[at]
 }
 
+/// The cause that a row tells.
+pub fn row_cause<'a>(row: &[&'a [u8]; 3]) -> &'a [u8]
+    ensures { result.now ≡ cell (cells row.now) 1 }
+{
+    cell(row, 1)
+}
+
+/// The mend that a row tells.
+pub fn row_mend<'a>(row: &[&'a [u8]; 3]) -> &'a [u8]
+    ensures { result.now ≡ cell (cells row.now) 2 }
+{
+    cell(row, 2)
+}
+
 #[tactic(auto, unfolding(crate::specs::Advice::row_text))]
 fn put_row(alloc: Global, text: &mut Text, row: &[&[u8]; 3]) -> Result<(), AllocError>
     ensures { OnOk result (text.new ≡ text.old ++ row_text (cells row.now)) }
 {
-    put_sentence(alloc, text, b"  Cause: ", cell(row, 1), b".")?;
-    put_sentence(alloc, text, b"  Mend: ", cell(row, 2), b".")
+    put_sentence(alloc, text, b"  Cause: ", row_cause(row), b".")?;
+    put_sentence(alloc, text, b"  Mend: ", row_mend(row), b".")
 }
 
 #[tactic(auto, unfolding(crate::specs::Advice::refusals))]
-pub(crate) fn refusals() -> &'static [[&'static [u8]; 3]]
+pub fn refusals() -> &'static [[&'static [u8]; 3]]
     ensures { map cells result.now ≡ refusals }
 {
     &REFUSALS
 }
 
 #[tactic(auto, unfolding(crate::specs::Advice::files))]
-pub(crate) fn files() -> &'static [[&'static [u8]; 3]]
+pub fn files() -> &'static [[&'static [u8]; 3]]
     ensures { map cells result.now ≡ files }
 {
     &FILES
 }
 
 #[tactic(auto, unfolding(crate::specs::Advice::services))]
-pub(crate) fn services() -> &'static [[&'static [u8]; 3]]
+pub fn services() -> &'static [[&'static [u8]; 3]]
     ensures { map cells result.now ≡ services }
 {
     &SERVICES
 }
 
 #[tactic(auto, unfolding(crate::specs::Advice::tags))]
-pub(crate) fn tags() -> &'static [[&'static [u8]; 3]]
+pub fn tags() -> &'static [[&'static [u8]; 3]]
     ensures { map cells result.now ≡ tags }
 {
     &TAGS
@@ -93,7 +107,7 @@ pub(crate) fn faults() -> &'static [[&'static [u8]; 3]]
 }
 
 #[tactic(auto, unfolding(crate::specs::Advice::readings))]
-pub(crate) fn readings() -> &'static [[&'static [u8]; 3]]
+pub fn readings() -> &'static [[&'static [u8]; 3]]
     ensures { map cells result.now ≡ readings }
 {
     &READINGS

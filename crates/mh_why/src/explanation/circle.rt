@@ -134,7 +134,7 @@ fn put_sentence(
 
 /// Puts an object by its number and its group.
 #[tactic(auto, unfolding(crate::specs::Circles::at_words))]
-pub(crate) fn put_at(text: &mut Text, at: &ObjRef) -> Result<(), AllocError>
+pub fn put_at(text: &mut Text, at: &ObjRef) -> Result<(), AllocError>
     ensures { OnOk result (text.new ≡ text.old ++ at_words at.now) }
 {
     text.put(b"object ")?;

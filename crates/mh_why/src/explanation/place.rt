@@ -3,7 +3,7 @@
 pub(crate) mod marked;
 pub(crate) mod named;
 pub(crate) mod spot;
-pub(crate) mod values;
+pub mod values;
 
 ghost use Rattle.std.specs.Prelude.{◌≡◌, ◌++◌, OnOk, IfOk};
 ghost use Rattle.std.specs.Option.{option_copied};

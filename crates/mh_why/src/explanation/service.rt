@@ -46,7 +46,7 @@ fn put_for(
 }
 
 /// What the number leads to among the landmarks of the group.
-fn landmark_for<'a, 'b>(
+pub fn landmark_for<'a, 'b>(
     alloc: Global,
     number: &[u8],
     from: &GroupName,

@@ -5,7 +5,7 @@ ghost use Rattle.mh_why.specs.Sources.{is_blank, is_bracket, is_in_token, is_no,
 
 /// How many bytes the token has that these begin with: a string up to its end, and else all up to white space, a bracket
 /// or a string.
-pub(crate) fn token_size(bytes: &[u8]) -> usize
+pub fn token_size(bytes: &[u8]) -> usize
     ensures { result ≡ token_size bytes.now }
 {
     match bytes {

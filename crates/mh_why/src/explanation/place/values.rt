@@ -19,7 +19,7 @@ pub(crate) struct Walk {
 }
 
 /// The bytes from this part on of the action, or of the list of members, with which these begin; none where it is not found.
-pub(crate) fn detail_in(detail: Detail, bytes: &[u8]) -> &[u8]
+pub fn detail_in(detail: Detail, bytes: &[u8]) -> &[u8]
     ensures { result.now ≡ detail_in detail bytes.now }
 {
     match detail {
@@ -130,7 +130,7 @@ fn walk_behind(walk: Walk, kind: TokenKind) -> Walk
 }
 
 /// How many bytes the value has that these begin with.
-pub(crate) fn value_size(bytes: &[u8]) -> usize
+pub fn value_size(bytes: &[u8]) -> usize
     ensures { result ≡ value_size bytes.now }
 {
     bytes.len().saturating_sub(behind(bytes).len())

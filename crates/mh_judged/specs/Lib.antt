@@ -1,0 +1,7 @@
+pub mod Places
+pub mod Advised
+pub mod Mistakes
+pub mod Unread
+pub mod Refusals
+pub mod Accepted
+pub mod Judged

@@ -1,0 +1,138 @@
+//! What is found of the files of a folder.
+//!
+//! Promise: it is the list that `specs/Judged` says, of what reading and the verifier say of the files.
+ghost use Rattle.std.specs.Prelude.{◌≡◌, ◌∷◌, [], IfOk};
+ghost use Rattle.std.specs.Option.{option_copied};
+ghost use Rattle.mh_told.specs.Reading.{service_tagged};
+ghost use Rattle.mh_verify.specs.declared.refusal.RefusalKind.TheVariants.{NoMemory};
+ghost use Rattle.mh_judged.specs.Judged.{IsListOf, IsServiceList};
+ghost use Rattle.mh_judged.specs.Refusals.{refusal_finding as refusal_finding_lem};
+ghost use Rattle.mh_judged.specs.Unread.{unread_findings};
+
+use crate::accepted::accepted_findings;
+use crate::refused::refusal_finding;
+use crate::unread::push_unread;
+use mh_base::GroupName;
+use mh_findings::Finding;
+use mh_lint::Asked;
+use mh_places::Directory;
+use mh_service::Service;
+use mh_told::reading::read_tagged_service;
+use mh_told::unplayable::Unplayable;
+use mh_verify::{Refusal, RefusalKind, verify};
+use std::alloc::{AllocError, Global};
+
+/// What is found of the service that the files of a folder make, which starts with the application of this name, in which the
+/// scenes come late that `late` names, a name a line, and whose files in the binary notation have the tags that `tags` gives.
+/// The folder is called so, and the file that gives tags is called `given`.
+pub fn findings_on(
+    alloc: Global,
+    given: &[u8],
+    tags: Option<&[u8]>,
+    folder: &[u8],
+    files: &[(GroupName, Vec<u8>)],
+    start: &[u8],
+    late: Option<&[u8]>,
+    asked: Asked,
+) -> Result<Vec<Finding>, AllocError>
+    ensures { IfOk result (λ found. IsListOf asked given.now folder.now files.now start.now
+        (service_tagged (option_copied tags.entry) start.now (option_copied late.entry) files.now) found.items) }
+{
+    match read_tagged_service(alloc, tags, files, start, late) {
+        Ok(service) => verified(alloc, service, folder, files, start, asked),
+        Err(why) => match why {
+            Unplayable::NoMemory => Err(AllocError),
+            _ => unread(alloc, given, folder, files, &why),
+        },
+    }
+}
+
+fn unread(
+    alloc: Global,
+    given: &[u8],
+    folder: &[u8],
+    files: &[(GroupName, Vec<u8>)],
+    why: &Unplayable,
+) -> Result<Vec<Finding>, AllocError>
+    ensures { IfOk result (λ found. found.items ≡ unread_findings given.now folder.now files.now why.now) }
+{
+    let mut found = Vec::new(alloc);
+    push_unread(alloc, &mut found, given, folder, files, why)?;
+    Ok(found)
+}
+
+/// What is found of a service, where the receiver has the built-in programs alone.
+fn verified(
+    alloc: Global,
+    service: Service,
+    folder: &[u8],
+    files: &[(GroupName, Vec<u8>)],
+    start: &[u8],
+    asked: Asked,
+) -> Result<Vec<Finding>, AllocError>
+    ensures { IfOk result (λ found. IsServiceList asked service folder.now files.now start.now found.items) }
+{
+    match verify(alloc, service, &[]) {
+        Ok(accepted) => {
+            let found = accepted_findings(alloc, &accepted, folder, files, asked);
+            drop(accepted);
+            found
+        }
+        Err(refusal) => {
+            let found = refused(alloc, folder, files, start, &refusal);
+            drop(refusal);
+            found
+        }
+    }
+}
+
+/// What is found of a refusal.
+fn refused(
+    alloc: Global,
+    folder: &[u8],
+    files: &[(GroupName, Vec<u8>)],
+    start: &[u8],
+    refusal: &Refusal,
+) -> Result<Vec<Finding>, AllocError>
+    ensures { IfOk result (λ found.
+        (found.items ≡ refusal_finding_lem folder.now files.now start.now refusal.now ∷ [])
+        × (refusal.now.kind ≡ NoMemory → ⊥)) }
+{
+    match refusal.kind {
+        RefusalKind::NoMemory => Err(AllocError),
+        _ => list_of(alloc, folder, files, start, refusal),
+    }
+}
+
+/// The same, where the refusal is not for want of memory.
+fn list_of(
+    alloc: Global,
+    folder: &[u8],
+    files: &[(GroupName, Vec<u8>)],
+    start: &[u8],
+    refusal: &Refusal,
+) -> Result<Vec<Finding>, AllocError>
+    ensures { IfOk result (λ found.
+        found.items ≡ refusal_finding_lem folder.now files.now start.now refusal.now ∷ []) }
+{
+    let directory = Directory::of(alloc, files)?;
+    let found = list_by(alloc, folder, &directory, start, refusal);
+    drop(directory);
+    found
+}
+
+/// The same, by where things stand in the files.
+fn list_by(
+    alloc: Global,
+    folder: &[u8],
+    directory: &Directory<'_>,
+    start: &[u8],
+    refusal: &Refusal,
+) -> Result<Vec<Finding>, AllocError>
+    ensures { IfOk result (λ found.
+        found.items ≡ refusal_finding_lem folder.now directory.now start.now refusal.now ∷ []) }
+{
+    let mut found = Vec::new(alloc);
+    found.push(refusal_finding(alloc, folder, directory, start, refusal)?)?;
+    Ok(found)
+}
