@@ -3,3 +3,4 @@ pub mod Beside
 pub mod Lent
 pub mod Play
 pub mod Told
+pub mod Sealed

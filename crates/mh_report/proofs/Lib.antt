@@ -7,3 +7,4 @@ pub mod OpenedLemmas
 pub mod PlainLemmas
 pub mod WrittenLemmas
 pub mod ConvertLemmas
+pub mod SealingLemmas

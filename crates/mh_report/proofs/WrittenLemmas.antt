@@ -14,7 +14,7 @@ use Rattle.mh_told.specs.declared.unplayable.Unplayable.{Unplayable}
 use Rattle.mh_told.specs.declared.unplayable.Unplayable.TheVariants as unplayable
 use Rattle.std.specs.Io.KnownBytes.{Appends}
 use Rattle.mh_report.specs.Sink.{IsBeginning}
-use Rattle.mh_report.specs.Played.{Checks, check_accepted, HasWritten, HasBegun, begun_some}
+use Rattle.mh_report.specs.Played.{Checks, check_accepted, check_refused, Refuses, refuses, HasWritten, HasBegun, begun_nothing, begun_some}
 use Rattle.mh_verdict.specs.Lines.{accepted_lines, complaint}
 use Rattle.mh_told.specs.Reading.{Fails}
 
@@ -29,6 +29,22 @@ pub cut : (Means : List ℕ → Status → Type 0) (before after : Option (List 
     OnErr r (IsBeginning before after report) → OnErr r (HasBegun Means before after)
 cut Means before after (Ok st) report how so begun = tt
 cut Means before after (Err e) report how so begun = begun_some report how so begun
+
+-- what is meant as one is meant as another
+
+pub written_as : (M N : List ℕ → Status → Type 0) (before after : Option (List ℕ)) (r : Result Status PlayError) → ((report : List ℕ) (how : Status) → M report how → N report how) →
+    IfOk r (HasWritten M before after) → IfOk r (HasWritten N before after)
+written_as M N before after (Ok st) each w = record { report = w.report; meant = each w.report st w.meant; taken = w.taken }
+written_as M N before after (Err e) each w = tt
+
+pub begun_as : (M N : List ℕ → Status → Type 0) (before after : Option (List ℕ)) (r : Result Status PlayError) → ((report : List ℕ) (how : Status) → M report how → N report how) →
+    OnErr r (HasBegun M before after) → OnErr r (HasBegun N before after)
+begun_as M N before after (Ok st) each w = tt
+begun_as M N before after (Err e) each (begun_nothing same) = begun_nothing same
+begun_as M N before after (Err e) each (begun_some report how meant cut) = begun_some report how (each report how meant) cut
+
+pub refused_checks : (s : Service) (report : List ℕ) (how : Status) → Refuses s report how → Checks (Ok s) report how
+refused_checks s report how (refuses r first) = check_refused s r first
 
 -- an accepted service is said with its bounds
 pub accepted_so : (a : Verified) (s : Service) (b : Bounds) → a.service ≡ s → IsVerified a → b ≡ a.bounds → Checks (Ok s) (accepted_lines b) status.Good

@@ -4,3 +4,4 @@ pub mod Reading
 pub mod Presets
 pub mod Played
 pub mod Converted
+pub mod Sealed

@@ -40,6 +40,10 @@ pub data Plays (mjd : ℕ) (lenient : Bool) : Result Material Unplayable → Lis
       Plays mjd lenient (Ok m) (play_lines m.commands (opened m.service mjd m.files))
       (play_status m.commands (opened m.service mjd m.files))
 
+-- What is written of a service that is refused, and how it ends.
+pub data Refuses (s : Service) : List ℕ → Status → Type 0 where
+  refuses : (r : Refusal) → Names s [] r → Refuses s (refusal_lines r) status.Refused
+
 -- What is written of a service that is checked, and how it ends.
 pub data Checks : Result Service Unplayable → List ℕ → Status → Type 0 where
   check_unreadable : (e : Unplayable) → Checks (Err e) (complaint e) status.Unreadable

@@ -3,7 +3,7 @@ ghost use Rattle.std.specs.Prelude.{◌≡◌, ◌-◌, ◌<◌, ◌^◌, [], If
 ghost use Rattle.std.specs.Io.KnownBytes.{Appends};
 ghost use Rattle.mh_model.specs.Service.{Service as ServiceValue};
 ghost use Rattle.mh_report.specs.Sink.{IsBeginning};
-ghost use Rattle.mh_report.specs.Played.{Checks, HasWritten, HasBegun};
+ghost use Rattle.mh_report.specs.Played.{Checks, Refuses, HasWritten, HasBegun};
 ghost use Rattle.mh_verdict.specs.Lines.{accepted_lines};
 ghost use Rattle.mh_report.specs.Reading.{chosen_service};
 ghost use Rattle.mh_verify.specs.Order.{IsTold};
@@ -67,16 +67,16 @@ fn judge<S: Sink>(alloc: Global, service: Service, sink: &mut S) -> Result<Statu
 }
 
 /// Says why a service is refused; nothing where that is for want of memory.
-fn answer_refusal<S: Sink>(
+pub(crate) fn answer_refusal<S: Sink>(
     alloc: Global,
     refusal: &Refusal,
     sink: &mut S,
 ) -> Result<Status, PlayError>
     requires { S.failures sink.old < 2 ^ 64 - 1 }
     ensures written { (s : ServiceValue) → IsTold s [] refusal.now →
-        IfOk result (HasWritten (Checks (Ok s)) (S.written sink.old) (S.written sink.new)) }
+        IfOk result (HasWritten (Refuses s) (S.written sink.old) (S.written sink.new)) }
     ensures begun { (s : ServiceValue) → IsTold s [] refusal.now →
-        OnErr result (HasBegun (Checks (Ok s)) (S.written sink.old) (S.written sink.new)) }
+        OnErr result (HasBegun (Refuses s) (S.written sink.old) (S.written sink.new)) }
     ensures write { IsErrOf result PlayError.Write → S.failures sink.old < S.failures sink.new }
 {
     match refusal.kind {

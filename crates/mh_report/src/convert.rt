@@ -56,7 +56,8 @@ pub fn convert_bytes<S: Sink>(
     }
 }
 
-fn hand_out<S: Sink>(bytes: &[u8], sink: &mut S) -> Result<Status, PlayError>
+/// Writes these bytes.
+pub(crate) fn hand_out<S: Sink>(bytes: &[u8], sink: &mut S) -> Result<Status, PlayError>
     requires { S.failures sink.old < 2 ^ 64 - 1 }
     ensures report { OnOk result (Appends (S.written sink.old) (S.written sink.new) bytes.now) }
     ensures status { IfOk result (λ status. status ≡ Status.Good) }

@@ -2,6 +2,7 @@
 ghost use Rattle.std.specs.Prelude.{◌≡◌};
 ghost use Rattle.std.specs.Option.{option_copied};
 ghost use Rattle.mh_report.specs.Reading.{late_of, tags_of};
+ghost use Rattle.mh_report.specs.Sealed.{tag_octets};
 
 /// The choices of a check, a play or a conversion, of which each takes what is its own.
 #[derive(Drop)]
@@ -36,6 +37,16 @@ impl Options {
         match &self.tags {
             Some(bytes) => Some(bytes.as_slice()),
             None => None,
+        }
+    }
+
+    /// The octets of that file; none where there is none.
+    pub(crate) fn tag_octets(&self) -> &[u8]
+        ensures { result.now ≡ tag_octets self.now }
+    {
+        match &self.tags {
+            Some(bytes) => bytes.as_slice(),
+            None => &[],
         }
     }
 }

@@ -1,7 +1,7 @@
 //! What `redplay` writes.
 use crate::command::Command;
 use mh_case_files::{Answer, File, Material};
-use mh_report::{ListSink, Notation, Options, check_bytes, convert_bytes, play_bytes};
+use mh_report::{ListSink, Notation, Options, check_bytes, convert_bytes, play_bytes, seal_bytes};
 use std::alloc::Global;
 
 /// What a call of `redplay` writes, and its exit status.
@@ -10,6 +10,7 @@ pub fn answer(alloc: Global, material: &Material, command: &Command<'_>) -> Opti
     match command.name {
         "check" => checked(alloc, material, &options),
         "play" => played(alloc, material, &options),
+        "seal" => sealed(alloc, material, &options),
         "to-text" => converted(alloc, material, Notation::Textual, &options),
         "to-der" => converted(alloc, material, Notation::Binary, &options),
         _ => None,
@@ -43,6 +44,18 @@ fn checked(alloc: Global, material: &Material, options: &Options) -> Option<Answ
         failures: 0,
     };
     let status = check_bytes(alloc, material.files.as_slice(), options, &mut sink).ok()?;
+    Some(Answer {
+        status: status.code(),
+        written: sink.bytes,
+    })
+}
+
+fn sealed(alloc: Global, material: &Material, options: &Options) -> Option<Answer> {
+    let mut sink = ListSink {
+        bytes: Vec::new(alloc),
+        failures: 0,
+    };
+    let status = seal_bytes(alloc, material.files.as_slice(), options, &mut sink).ok()?;
     Some(Answer {
         status: status.code(),
         written: sink.bytes,

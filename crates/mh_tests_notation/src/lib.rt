@@ -26,6 +26,8 @@ mod octets;
 #[cfg(test)]
 mod plain;
 #[cfg(test)]
+mod seal;
+#[cfg(test)]
 mod tags;
 #[cfg(test)]
 mod text;

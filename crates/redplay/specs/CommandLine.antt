@@ -23,6 +23,9 @@ lenient = flag (codes "lenient")
 abbrev pub check : App
 check = with_choices (with_rule (new_app (codes "check")) folder)
 
+abbrev pub seal : App
+seal = with_choices (with_rule (new_app (codes "seal")) folder)
+
 -- what has to be given, what may be said of the service, and then of the play
 
 abbrev pub play_required : App
@@ -41,7 +44,7 @@ abbrev pub to_text : App
 to_text = with_rule (with_rule (new_app (codes "to-text")) file) tags
 
 abbrev pub with_services : App
-with_services = with_subcommand (with_subcommand (bare (codes "redplay")) check.top) play.top
+with_services = with_subcommand (with_subcommand (with_subcommand (bare (codes "redplay")) check.top) seal.top) play.top
 
 abbrev pub program : App
 program = with_subcommand (with_subcommand with_services to_der.top) to_text.top
@@ -51,12 +54,16 @@ program = with_subcommand (with_subcommand with_services to_der.top) to_text.top
 pub data Asked : Type 0 where
   checked : (folder start : Text) (late tags : Option Text) → Asked
   played : (folder start : Text) (late tags : Option Text) (script : Text) (lenient : Bool) (mjd : ℕ) → Asked
+  sealed : (folder start : Text) (late tags : Option Text) → Asked
   converted : (file : Text) (to : Notation) (tags : Option Text) → Asked
 
 -- what was found for the arguments of a subcommand
 
 abbrev pub checking : List Row → Asked
 checking rows = checked (text_of (codes "DIR") rows) (text_of (codes "start") rows) (first_of (codes "late") rows) (first_of (codes "tags") rows)
+
+abbrev pub sealing : List Row → Asked
+sealing rows = sealed (text_of (codes "DIR") rows) (text_of (codes "start") rows) (first_of (codes "late") rows) (first_of (codes "tags") rows)
 
 abbrev pub playing : List Row → Asked
 playing rows =
@@ -70,8 +77,9 @@ converting rows to = converted (text_of (codes "FILE") rows) to (first_of (codes
 abbrev pub asked_under : Text → List Row → Asked
 asked_under name rows =
     if bytes_eq name (codes "play") then playing rows
+    else (if bytes_eq name (codes "seal") then sealing rows
     else (if bytes_eq name (codes "to-der") then converting rows notation.Binary
-    else (if bytes_eq name (codes "to-text") then converting rows notation.Textual else checking rows))
+    else (if bytes_eq name (codes "to-text") then converting rows notation.Textual else checking rows)))
 
 -- one subcommand is required
 abbrev pub asked_by : Option (Text × List Row) → Asked
@@ -81,6 +89,7 @@ asked_by None = checked [] [] None None
 -- what a task says
 abbrev pub said : Task → Asked
 said (task.Check source) = checked source.folder.now source.start.now (named_in source.late) (named_in source.tags)
+said (task.Seal source) = sealed source.folder.now source.start.now (named_in source.late) (named_in source.tags)
 said (task.Play source script lenient mjd) =
     played source.folder.now source.start.now (named_in source.late) (named_in source.tags) script.now lenient mjd
 said (task.Convert file to tags) = converted file.now to (named_in tags)

@@ -22,6 +22,8 @@ use std::convert::AsStr;
 pub enum Task<'a> {
     /// What the verifier says of a service.
     Check(Source<'a>),
+    /// The seal of a service that the verifier accepts.
+    Seal(Source<'a>),
     /// A script, played on a service.
     Play {
         source: Source<'a>,
@@ -86,6 +88,7 @@ fn task_under<'a>(name: &str, given: &ArgMatches<'a>) -> Task<'a>
 {
     match name {
         "play" => playing(given),
+        "seal" => Task::Seal(source_of(given)),
         "to-der" => converting(given, Notation::Binary),
         "to-text" => converting(given, Notation::Textual),
         _ => Task::Check(source_of(given)),

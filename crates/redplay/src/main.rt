@@ -1,4 +1,4 @@
-//! The program: it reads a service from files, and checks it or plays a script on it, or it reads one
+//! The program: it reads a service from files, and checks it, seals it or plays a script on it, or it reads one
 //! group and writes it in the other notation.
 #![tactic(auto)]
 
@@ -13,7 +13,7 @@ use mh_command::{
 use mh_folder::{Unread, read_file, read_input};
 pub use mh_report::{
     ListSink, Notation, Options, PlayError, Sink, Status, WriterSink, check_bytes, convert_bytes,
-    play_bytes,
+    play_bytes, seal_bytes,
 };
 use std::io;
 use std::process::ExitCode;
@@ -45,6 +45,7 @@ fn perform<R: Runtime + AllocGlobal>(rt: &R, task: &Task) -> io::Result<Exit> {
 fn done<R: Runtime + AllocGlobal>(rt: &R, task: &Task) -> Result<Exit, Unread> {
     match task {
         Task::Check(source) => checked(rt, source),
+        Task::Seal(source) => sealed(rt, source),
         Task::Play {
             source,
             script,
@@ -72,6 +73,25 @@ fn check_files<R: Runtime + AllocGlobal>(
         failures: 0,
     };
     Ok(exit_of(check_bytes(rt.alloc(), files, &options, &mut sink)))
+}
+
+fn sealed<R: Runtime + AllocGlobal>(rt: &R, source: &Source) -> Result<Exit, Unread> {
+    let files = files_of(rt, source.folder)?;
+    seal_files(rt, files.as_slice(), source)
+}
+
+/// Seals the service of these files, what is chosen of it being read.
+fn seal_files<R: Runtime + AllocGlobal>(
+    rt: &R,
+    files: &[(GroupName, Vec<u8>)],
+    source: &Source,
+) -> Result<Exit, Unread> {
+    let options = options_of(choice_of(rt, source)?, 0, false);
+    let mut sink = WriterSink {
+        writer: io::writer(rt),
+        failures: 0,
+    };
+    Ok(exit_of(seal_bytes(rt.alloc(), files, &options, &mut sink)))
 }
 
 fn played<R: Runtime + AllocGlobal>(

@@ -30,7 +30,7 @@ const ABOUT: &str = "Checks, plays and converts red-button television services";
 
 /// What is told behind the help of the program.
 const STATUSES: &str = "Exit status:
-  0  the service is accepted, the script was played without a fault, or the group is written
+  0  the service is accepted or its seal is written, the script was played without a fault, or the group is written
   1  the verifier refuses the service; the lines tell why (`redlook why` explains them)
   2  a file, the service, the script or the command line cannot be read; a line tells which
   3  a lenient play met actions that could not be done; its lines `fault` tell which
@@ -69,6 +69,7 @@ fn with_services<'a>(alloc: Global) -> Result<Command<'a>, AllocError>
     bare(alloc, "redplay", ABOUT)
         .after_help(STATUSES)
         .subcommand(check(alloc)?)?
+        .subcommand(seal(alloc)?)?
         .subcommand(play(alloc)?)
 }
 
@@ -117,6 +118,27 @@ fn check_folder<'a>(alloc: Global) -> Result<Command<'a>, AllocError>
         "check",
         "Says whether a service is accepted: nothing makes it name what is absent or of a wrong class, and each input settles in so many steps",
         "Examples:\n  redplay check examples/first/service\n  redplay check examples/late/service --late examples/late/late",
+    )
+    .arg(folder(alloc, FOLDER))
+}
+
+fn seal<'a>(alloc: Global) -> Result<Command<'a>, AllocError>
+    ensures app { IfOk result (λ c. app_of c ≡ spec.seal) }
+    ensures local { IfOk result (λ c. (fields_of c).has_globals ≡ false) }
+{
+    with_choices(alloc, seal_folder(alloc)?, START, TAGS)
+}
+
+/// The subcommand with the folder alone.
+fn seal_folder<'a>(alloc: Global) -> Result<Command<'a>, AllocError>
+    ensures app { IfOk result (λ c. app_of c ≡ with_rule (new_app (codes "seal")) folder) }
+    ensures local { IfOk result (λ c. (fields_of c).has_globals ≡ false) }
+{
+    described(
+        alloc,
+        "seal",
+        "Prints the seal of a service that is accepted: its groups with their digests, which of them come late, and the bounds",
+        "Examples:\n  redplay seal examples/first/service\n  redplay seal examples/late/service --late examples/late/late > late.seal",
     )
     .arg(folder(alloc, FOLDER))
 }
