@@ -14,8 +14,14 @@ pub struct Command<'a> {
     pub tap: bool,
     pub keys: u32,
     pub steps: u32,
-    /// The group and the number of the object that is told alone.
+    /// The group and the number of the object that is told alone (`--only`, `--object`).
     pub only: Option<(&'a str, u32)>,
+    /// Whether a trace is told as objects, and which of its steps.
+    pub json: bool,
+    pub from: u32,
+    pub until: u32,
+    /// Behind how many steps a state is told.
+    pub at: u32,
 }
 
 impl<'a> Command<'a> {
@@ -32,6 +38,10 @@ impl<'a> Command<'a> {
             keys: 6,
             steps: 10_000,
             only: None,
+            json: false,
+            from: 1,
+            until: u32::MAX,
+            at: u32::MAX,
         };
         for option in options.split("--").skip(1) {
             command = command.with(option.trim_end())?;
@@ -51,7 +61,11 @@ impl<'a> Command<'a> {
             "mjd" => command.mjd = value.parse::<u32>().ok()?,
             "keys" => command.keys = value.parse::<u32>().ok()?,
             "steps" => command.steps = value.parse::<u32>().ok()?,
-            "only" => command.only = Some(object(value)?),
+            "only" | "object" => command.only = Some(object(value)?),
+            "format" => command.json = value == "json",
+            "at" => command.at = value.parse::<u32>().ok()?,
+            "from" => command.from = value.parse::<u32>().ok()?,
+            "until" => command.until = value.parse::<u32>().ok()?,
             _ => return None,
         }
         Some(command)

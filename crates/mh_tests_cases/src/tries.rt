@@ -5,7 +5,9 @@ use mh_base::{GroupName, ObjRef};
 use mh_case_files::{Answer, Material};
 use mh_told::text::Text;
 use mh_told::unplayable::Unplayable;
-use mh_try::{Chosen, Within, cover_of, fault_script, refusal_of, trace_of};
+use mh_try::{
+    Chosen, Form, Telling, Within, cover_of, fault_script, refusal_of, state_of, trace_of,
+};
 use mh_verdict::complaint_text;
 use std::alloc::Global;
 
@@ -23,6 +25,7 @@ pub fn answer(alloc: Global, material: &Material, command: &Command<'_>) -> Opti
     let chosen = chosen(alloc, material, command)?;
     match command.name {
         "trace" => traced(alloc, material, &chosen, command),
+        "state" => stated(alloc, material, &chosen, command),
         "cover" => covered(alloc, material, &chosen, command.tap),
         "find" => found(alloc, material, &chosen, command),
         _ => None,
@@ -67,7 +70,31 @@ fn traced(
         }
     }
     let only = object_of(alloc, command)?;
-    of_told(alloc, trace(alloc, material, chosen, only.as_ref()))
+    let telling = telling_of(command);
+    of_told(
+        alloc,
+        trace(alloc, material, chosen, &telling, only.as_ref()),
+    )
+}
+
+fn stated(
+    alloc: Global,
+    material: &Material,
+    chosen: &Chosen,
+    command: &Command<'_>,
+) -> Option<Answer> {
+    let object = object_of(alloc, command)?;
+    of_told(
+        alloc,
+        state_of(
+            alloc,
+            material.files.as_slice(),
+            script_of(material),
+            chosen,
+            u64::from(command.at),
+            object.as_ref(),
+        ),
+    )
 }
 
 /// The lines on a refusal, if there is one; none at all where the service cannot be read.
@@ -84,10 +111,21 @@ fn object_of(alloc: Global, command: &Command<'_>) -> Option<Option<ObjRef>> {
     Some(Some(ObjRef { group, number }))
 }
 
+/// Which steps are told, and how.
+fn telling_of(command: &Command<'_>) -> Telling {
+    let form = if command.json { Form::Json } else { Form::Text };
+    Telling {
+        form,
+        from: u64::from(command.from),
+        until: u64::from(command.until),
+    }
+}
+
 fn trace(
     alloc: Global,
     material: &Material,
     chosen: &Chosen,
+    telling: &Telling,
     only: Option<&ObjRef>,
 ) -> Result<Text, Unplayable> {
     trace_of(
@@ -95,6 +133,7 @@ fn trace(
         material.files.as_slice(),
         script_of(material),
         chosen,
+        telling,
         only,
     )
 }

@@ -20,6 +20,7 @@ use Rattle.mh_model.specs.declared.item.Item.{Item}
 use Rattle.mh_model.specs.Service.{parts}
 use Rattle.mh_model.specs.State.{State, all}
 use Rattle.mh_model.specs.Step.{step}
+use Rattle.mh_trace.specs.declared.form.Form.{Form}
 use Rattle.mh_trace.specs.declared.site.EffectKind.TheVariants as kind
 use Rattle.mh_trace.specs.Ears.{ear, ear_by, waits}
 use Rattle.mh_trace.specs.Trace.{Tracing, traced_by}
@@ -116,8 +117,8 @@ waits_not e o none = by (is_link o.fixed.class) (as_value (held attribute.EventS
     by false v t h = refl
     by true v t h = ap (λ (b : Bool). if b then t else false) (no_source v e.source h)
 
-pub ear_none : (e : Event) (o : Object) → is_number (heard_number o.fixed) e.source.number ≡ false → ear e o ≡ []
-ear_none e o none = ap (λ (b : Bool). if b then ear_by e o else []) (waits_not e o none)
+pub ear_none : (f : Form) (e : Event) (o : Object) → is_number (heard_number o.fixed) e.source.number ≡ false → ear f e o ≡ []
+ear_none f e o none = ap (λ (b : Bool). if b then ear_by f e o else []) (waits_not e o none)
 
 matches_not : (e : Event) (o : Object) → is_number (heard_number o.fixed) e.source.number ≡ false → matches e o ≡ false
 matches_not e o none =

@@ -1,5 +1,5 @@
 -- The steps that are traced are those of the run.
-use Rattle.std.specs.Prelude.{◌≡◌, ℕ, zero, suc, ◌==◌, Bool, true, false, not, if◌then◌else◌, List, [], ◌∷◌, refl}
+use Rattle.std.specs.Prelude.{◌≡◌, ℕ, zero, suc, ◌-◌, ◌==◌, Bool, true, false, not, if◌then◌else◌, List, [], ◌∷◌, nat_le, refl}
 use Rattle.std.proofs.Common.{ap, sym, ◌∙◌}
 use Rattle.mh_model.specs.Limits.{most_steps}
 use Rattle.mh_model.specs.State.{State}
@@ -7,7 +7,7 @@ use Rattle.mh_model.specs.Step.{advanced, is_settled, step, stepped}
 use Rattle.mh_machine.proofs.StepLemmas.{advanced_still, stepped_settled}
 use Rattle.mh_script.specs.declared.script.Command.{Command}
 use Rattle.mh_script.specs.declared.script.Command.TheVariants as command
-use Rattle.mh_trace.specs.Run.{commanded, commanded_all}
+use Rattle.mh_trace.specs.Run.{all_until, commanded, commanded_all, commanded_until, state_at, traced_until, up_to}
 use Rattle.mh_trace.specs.Trace.{Tracing, steps, traced, traced_all, traced_step}
 
 -- where no step is made none changes anything
@@ -39,3 +39,14 @@ command_run command.Show p = refl
 pub traces_run : (cs : List Command) (p : Tracing) → (traced_all cs p).state ≡ commanded_all cs p.state
 traces_run [] p = refl
 traces_run (c ∷ cs) p = traces_run cs (traced c p) ∙ ap (commanded_all cs) (command_run c p)
+
+until_run : (n : ℕ) (c : Command) (p : Tracing) → (traced_until n c p).state ≡ commanded_until n c p.state
+until_run n c p = by (nat_le n p.state.taken)
+  where
+    by : (b : Bool) → (if b then p else traced (up_to (n - p.state.taken) c) p).state ≡ (if b then p.state else commanded (up_to (n - p.state.taken) c) p.state)
+    by true = refl
+    by false = command_run (up_to (n - p.state.taken) c) p
+
+pub all_until_run : (n : ℕ) (cs : List Command) (p : Tracing) → (all_until n cs p).state ≡ state_at n cs p.state
+all_until_run n [] p = refl
+all_until_run n (c ∷ cs) p = all_until_run n cs (traced_until n c p) ∙ ap (state_at n cs) (until_run n c p)

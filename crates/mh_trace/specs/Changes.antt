@@ -20,7 +20,10 @@ use Rattle.mh_model.specs.Property.{held, read, read_of, value_held}
 use Rattle.mh_model.specs.Reference.{same_ref}
 use Rattle.mh_model.specs.Service.{object_at}
 use Rattle.mh_model.specs.Variables.{same_value}
-use Rattle.mh_trace.specs.Words.{octets_text, ref_text, value_text}
+use Rattle.mh_trace.specs.declared.form.Form.{Form}
+use Rattle.mh_trace.specs.declared.form.Form.TheVariants as form
+use Rattle.mh_trace.specs.Json.{member_text, more_text}
+use Rattle.mh_trace.specs.Words.{octets_text, ref_text, truth_text, value_text}
 
 -- Words. Octets that are many are cut off.
 
@@ -105,7 +108,7 @@ same_entries [] [] = true
 same_entries (e ∷ es) (f ∷ fs) = same_entry e f && same_entries es fs
 same_entries _ _ = false
 
--- NOTES, each on a part of an object that is not as it was
+-- NOTES, each on a part of an object that is not as it was: in a line, or as an object of a list
 
 unfoldable pub note_start : ObjRef → List ℕ
 note_start r = codes "; " ++ ref_text r ++ codes ": "
@@ -116,99 +119,169 @@ becomes = codes " becomes "
 abbrev pub not_word : Bool → List ℕ
 not_word b = if b then [] else codes "not "
 
+unfoldable pub json_start : ObjRef → List ℕ → List ℕ
+json_start r part = codes ",{" ++ member_text (codes "object") (ref_text r) ++ more_text (codes "part") part
+
+unfoldable pub json_change : ObjRef → List ℕ → List ℕ → List ℕ → List ℕ
+json_change r part x y = json_start r part ++ more_text (codes "from") x ++ more_text (codes "to") y ++ codes "}"
+
+-- whether it is available, runs and the like
+
 unfoldable pub flag_text : ObjRef → List ℕ → Bool → List ℕ
 flag_text r word b = note_start r ++ not_word b ++ word
 
-abbrev pub flag_note : ObjRef → List ℕ → Bool → Bool → List ℕ
-flag_note r word b c = if same_bool b c then [] else flag_text r word c
+abbrev pub flag_json : ObjRef → List ℕ → Bool → List ℕ
+flag_json r word b = json_change r word (truth_text (not b)) (truth_text b)
+
+abbrev pub flag_change : Form → ObjRef → List ℕ → Bool → List ℕ
+flag_change form.Text r word b = flag_text r word b
+flag_change form.Json r word b = flag_json r word b
+
+-- its numbers
 
 unfoldable pub count_text : ObjRef → List ℕ → ℕ → ℕ → List ℕ
-count_text r word m n = note_start r ++ word ++ decimal m ++ becomes ++ decimal n
+count_text r word m n = note_start r ++ word ++ codes " " ++ decimal m ++ becomes ++ decimal n
 
-abbrev pub count_note : ObjRef → List ℕ → ℕ → ℕ → List ℕ
-count_note r word m n = if m == n then [] else count_text r word m n
+abbrev pub count_json : ObjRef → List ℕ → ℕ → ℕ → List ℕ
+count_json r word m n = json_change r word (decimal m) (decimal n)
 
-unfoldable pub value_change : ObjRef → Option Value → Option Value → List ℕ
-value_change r v w = note_start r ++ given_text v ++ becomes ++ given_text w
+abbrev pub count_change : Form → ObjRef → List ℕ → ℕ → ℕ → List ℕ
+count_change form.Text r word m n = count_text r word m n
+count_change form.Json r word m n = count_json r word m n
 
-abbrev pub value_note : ObjRef → Option Value → Option Value → List ℕ
-value_note r v w = if same_given v w then [] else value_change r v w
+-- what a variable holds
 
-unfoldable pub text_change : ObjRef → Option (List ℕ) → Option (List ℕ) → List ℕ
-text_change r x y = note_start r ++ codes "text " ++ loaded_text x ++ becomes ++ loaded_text y
+unfoldable pub value_text_change : ObjRef → Option Value → Option Value → List ℕ
+value_text_change r v w = note_start r ++ given_text v ++ becomes ++ given_text w
 
-abbrev pub text_note : ObjRef → Option (List ℕ) → Option (List ℕ) → List ℕ
-text_note r x y = if same_loaded x y then [] else text_change r x y
+abbrev pub value_json : ObjRef → Option Value → Option Value → List ℕ
+value_json r v w = json_change r (codes "value") (given_text v) (given_text w)
 
-unfoldable pub items_change : ObjRef → List ℕ
-items_change r = note_start r ++ codes "other items"
+abbrev pub value_change : Form → ObjRef → Option Value → Option Value → List ℕ
+value_change form.Text r v w = value_text_change r v w
+value_change form.Json r v w = value_json r v w
 
-abbrev pub items_note : ObjRef → List Entry → List Entry → List ℕ
-items_note r es fs = if same_entries es fs then [] else items_change r
+-- its text
+
+unfoldable pub loaded_change : ObjRef → Option (List ℕ) → Option (List ℕ) → List ℕ
+loaded_change r x y = note_start r ++ codes "text " ++ loaded_text x ++ becomes ++ loaded_text y
+
+abbrev pub loaded_json : ObjRef → Option (List ℕ) → Option (List ℕ) → List ℕ
+loaded_json r x y = json_change r (codes "text") (loaded_text x) (loaded_text y)
+
+abbrev pub text_change : Form → ObjRef → Option (List ℕ) → Option (List ℕ) → List ℕ
+text_change form.Text r x y = loaded_change r x y
+text_change form.Json r x y = loaded_json r x y
+
+-- its items
+
+unfoldable pub items_text : ObjRef → List ℕ
+items_text r = note_start r ++ codes "other items"
+
+unfoldable pub items_json : ObjRef → List ℕ
+items_json r = json_start r (codes "items") ++ codes "}"
+
+abbrev pub items_change : Form → ObjRef → List ℕ
+items_change form.Text r = items_text r
+items_change form.Json r = items_json r
 
 -- an attribute that an action has changed, against what was read before
 
-unfoldable pub attribute_change : ObjRef → Attribute → Option Held → Held → List ℕ
-attribute_change r a h k = note_start r ++ attribute_word a ++ codes " " ++ read_text h ++ becomes ++ held_text k
+unfoldable pub attribute_text : ObjRef → Attribute → Option Held → Held → List ℕ
+attribute_text r a h k = note_start r ++ attribute_word a ++ codes " " ++ read_text h ++ becomes ++ held_text k
 
-abbrev pub attribute_by : ObjRef → Attribute → Option Held → Option Held → List ℕ
-attribute_by r a h None = []
-attribute_by r a h (Some k) = if same_read h k then [] else attribute_change r a h k
+abbrev pub attribute_json : ObjRef → Attribute → Option Held → Held → List ℕ
+attribute_json r a h k = json_change r (attribute_word a) (read_text h) (held_text k)
 
-abbrev pub attribute_note : Object → Body → Attribute → List ℕ
-attribute_note o c a = attribute_by o.fixed.key a (read a o) (held a c.changes)
+abbrev pub attribute_change : Form → ObjRef → Attribute → Option Held → Held → List ℕ
+attribute_change form.Text r a h k = attribute_text r a h k
+attribute_change form.Json r a h k = attribute_json r a h k
 
-abbrev pub attribute_notes : Object → Body → List ℕ
-attribute_notes o c = flat_map (attribute_note o c) attributes
+-- all of them
+
+abbrev pub flag_note : Form → ObjRef → List ℕ → Bool → Bool → List ℕ
+flag_note f r word b c = if same_bool b c then [] else flag_change f r word c
+
+abbrev pub count_note : Form → ObjRef → List ℕ → ℕ → ℕ → List ℕ
+count_note f r word m n = if m == n then [] else count_change f r word m n
+
+abbrev pub value_note : Form → ObjRef → Option Value → Option Value → List ℕ
+value_note f r v w = if same_given v w then [] else value_change f r v w
+
+abbrev pub text_note : Form → ObjRef → Option (List ℕ) → Option (List ℕ) → List ℕ
+text_note f r x y = if same_loaded x y then [] else text_change f r x y
+
+abbrev pub items_note : Form → ObjRef → List Entry → List Entry → List ℕ
+items_note f r es fs = if same_entries es fs then [] else items_change f r
+
+abbrev pub attribute_by : Form → ObjRef → Attribute → Option Held → Option Held → List ℕ
+attribute_by f r a h None = []
+attribute_by f r a h (Some k) = if same_read h k then [] else attribute_change f r a h k
+
+abbrev pub attribute_note : Form → Object → Body → Attribute → List ℕ
+attribute_note f o c a = attribute_by f o.fixed.key a (read a o) (held a c.changes)
+
+abbrev pub attribute_notes : Form → Object → Body → List ℕ
+attribute_notes f o c = flat_map (attribute_note f o c) attributes
 
 -- all that is told of an object, which was this, and has this body now
 
-unfoldable pub available_note : ObjRef → Bool → Bool → List ℕ
-available_note r b c = flag_note r (codes "available") b c
+unfoldable pub available_note : Form → ObjRef → Bool → Bool → List ℕ
+available_note f r b c = flag_note f r (codes "available") b c
 
-unfoldable pub running_note : ObjRef → Bool → Bool → List ℕ
-running_note r b c = flag_note r (codes "running") b c
+unfoldable pub running_note : Form → ObjRef → Bool → Bool → List ℕ
+running_note f r b c = flag_note f r (codes "running") b c
 
-unfoldable pub highlighted_note : ObjRef → Bool → Bool → List ℕ
-highlighted_note r b c = flag_note r (codes "highlighted") b c
+unfoldable pub highlighted_note : Form → ObjRef → Bool → Bool → List ℕ
+highlighted_note f r b c = flag_note f r (codes "highlighted") b c
 
-unfoldable pub selected_note : ObjRef → Bool → Bool → List ℕ
-selected_note r b c = flag_note r (codes "selected") b c
+unfoldable pub selected_note : Form → ObjRef → Bool → Bool → List ℕ
+selected_note f r b c = flag_note f r (codes "selected") b c
 
-unfoldable pub overwriting_note : ObjRef → Bool → Bool → List ℕ
-overwriting_note r b c = flag_note r (codes "overwriting") b c
+unfoldable pub overwriting_note : Form → ObjRef → Bool → Bool → List ℕ
+overwriting_note f r b c = flag_note f r (codes "overwriting") b c
 
-unfoldable pub life_notes : ObjRef → Body → Body → List ℕ
-life_notes r b c =
-    available_note r b.available c.available ++ running_note r b.running c.running
-    ++ highlighted_note r b.highlighted c.highlighted ++ selected_note r b.selected c.selected
-    ++ overwriting_note r b.overwrites c.overwrites
+unfoldable pub life_notes : Form → ObjRef → Body → Body → List ℕ
+life_notes f r b c =
+    available_note f r b.available c.available ++ running_note f r b.running c.running
+    ++ highlighted_note f r b.highlighted c.highlighted ++ selected_note f r b.selected c.selected
+    ++ overwriting_note f r b.overwrites c.overwrites
 
-unfoldable pub count_notes : ObjRef → Body → Body → List ℕ
-count_notes r b c =
-    count_note r (codes "token ") b.token c.token
-    ++ count_note r (codes "entry point ") b.point c.point
-    ++ count_note r (codes "drawings ") (length b.drawings) (length c.drawings)
-    ++ count_note r (codes "first item ") b.list.first c.list.first
+unfoldable pub token_note : Form → ObjRef → ℕ → ℕ → List ℕ
+token_note f r m n = count_note f r (codes "token") m n
 
-unfoldable pub content_notes : Object → Body → List ℕ
-content_notes o c =
-    value_note o.fixed.key (value_held o.fixed o.body) (value_held o.fixed c)
-    ++ text_note o.fixed.key o.body.text c.text
-    ++ items_note o.fixed.key o.body.list.entries c.list.entries
+unfoldable pub point_note : Form → ObjRef → ℕ → ℕ → List ℕ
+point_note f r m n = count_note f r (codes "entry point") m n
 
-unfoldable pub notes_on : Object → Body → List ℕ
-notes_on o c =
-    life_notes o.fixed.key o.body c ++ count_notes o.fixed.key o.body c ++ content_notes o c ++ attribute_notes o c
+unfoldable pub drawings_note : Form → ObjRef → ℕ → ℕ → List ℕ
+drawings_note f r m n = count_note f r (codes "drawings") m n
 
-abbrev pub notes_at : Object → Option Object → List ℕ
-notes_at o None = []
-notes_at o (Some p) = notes_on o p.body
+unfoldable pub first_note : Form → ObjRef → ℕ → ℕ → List ℕ
+first_note f r m n = count_note f r (codes "first item") m n
+
+unfoldable pub count_notes : Form → ObjRef → Body → Body → List ℕ
+count_notes f r b c =
+    token_note f r b.token c.token ++ point_note f r b.point c.point
+    ++ drawings_note f r (length b.drawings) (length c.drawings) ++ first_note f r b.list.first c.list.first
+
+unfoldable pub content_notes : Form → Object → Body → List ℕ
+content_notes f o c =
+    value_note f o.fixed.key (value_held o.fixed o.body) (value_held o.fixed c)
+    ++ text_note f o.fixed.key o.body.text c.text
+    ++ items_note f o.fixed.key o.body.list.entries c.list.entries
+
+unfoldable pub notes_on : Form → Object → Body → List ℕ
+notes_on f o c =
+    life_notes f o.fixed.key o.body c ++ count_notes f o.fixed.key o.body c ++ content_notes f o c ++ attribute_notes f o c
+
+abbrev pub notes_at : Form → Object → Option Object → List ℕ
+notes_at f o None = []
+notes_at f o (Some p) = notes_on f o p.body
 
 -- of an object that was this before, among these objects
-abbrev pub notes_among : List Object → Object → List ℕ
-notes_among os o = notes_at o (object_at o.fixed.key os)
+abbrev pub notes_among : Form → List Object → Object → List ℕ
+notes_among f os o = notes_at f o (object_at o.fixed.key os)
 
 -- OF ALL THAT WERE THESE BEFORE
-abbrev pub notes : List Object → List Object → List ℕ
-notes before os = flat_map (notes_among os) before
+abbrev pub notes : Form → List Object → List Object → List ℕ
+notes f before os = flat_map (notes_among f os) before

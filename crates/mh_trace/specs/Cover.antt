@@ -12,13 +12,14 @@ use Rattle.mh_model.specs.declared.object.Fixed.{Fixed}
 use Rattle.mh_model.specs.Property.{held, as_effect}
 use Rattle.mh_model.specs.Service.{Service}
 use Rattle.mh_model.specs.Tokens.{members}
-use Rattle.mh_trace.specs.declared.row.GroupRow.{GroupRow}
-use Rattle.mh_trace.specs.declared.row.Row.{Row}
+use Rattle.mh_trace.specs.declared.cover.row.GroupRow.{GroupRow}
+use Rattle.mh_trace.specs.declared.cover.row.Row.{Row}
 use Rattle.mh_trace.specs.declared.site.EffectKind.{EffectKind}
 use Rattle.mh_trace.specs.declared.site.EffectKind.TheVariants as kind
 use Rattle.mh_trace.specs.declared.site.Site.{Site}
-use Rattle.mh_trace.specs.Sites.{is_in}
-use Rattle.mh_trace.specs.Trace.{Directory, Tracing, add_site, add_name, written_at}
+use Rattle.mh_trace.specs.Sites.{places_in, same_site}
+use Rattle.mh_trace.specs.Directory.{Directory, written_at}
+use Rattle.mh_trace.specs.Trace.{Tracing, add_site, add_name}
 use Rattle.mh_trace.specs.Words.{place_text}
 
 -- What was done and entered by several scripts, each once
@@ -43,8 +44,11 @@ covered_by p x = record { done = add_sites x.done p.done; entered = add_names x.
 
 -- EFFECTS. An effect with actions has a row: how many of them were done.
 
+abbrev pub is_done : List Site → Site → Bool
+is_done ss x = list_any (same_site x) ss
+
 abbrev pub row_of : List Site → ObjRef → EffectKind → List Act → Row
-row_of ss r k xs = record { object = r; kind = k; done = length (filter (is_in r k) ss); all = length xs }
+row_of ss r k xs = record { object = r; kind = k; done = length (filter (is_done ss) (places_in r k xs)); all = length xs }
 
 abbrev pub effect_rows : List Site → ObjRef → EffectKind → List Act → List Row
 effect_rows ss r k [] = []

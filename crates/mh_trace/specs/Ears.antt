@@ -24,7 +24,10 @@ use Rattle.mh_model.specs.Reference.{group_ref}
 use Rattle.mh_model.specs.Service.{object_at}
 use Rattle.mh_model.specs.State.{State, all}
 use Rattle.mh_model.specs.Step.{engine_event, key_event, register_of}
-use Rattle.mh_trace.specs.Words.{ref_text, value_text}
+use Rattle.mh_trace.specs.declared.form.Form.{Form}
+use Rattle.mh_trace.specs.declared.form.Form.TheVariants as form
+use Rattle.mh_trace.specs.Json.{member_text, more_text, plain_text}
+use Rattle.mh_trace.specs.Words.{ref_text, truth_text, value_text}
 
 -- a link waits for events of this source and type, if it runs, and with whatever data
 abbrev pub waits : Event → Object → Bool
@@ -58,18 +61,44 @@ wanted_text (Some v) = value_text v
 unfoldable pub unlike_note : ObjRef → Option Value → List ℕ
 unlike_note r v = unheard_note r ++ codes ", which waits for " ++ wanted_text v
 
-abbrev pub ear_by : Event → Object → List ℕ
-ear_by e o =
+-- the same as objects of a list
+
+unfoldable pub link_json : ObjRef → Bool → List ℕ
+link_json r hears = codes ",{" ++ member_text (codes "link") (ref_text r) ++ plain_text (codes "hears") (truth_text hears)
+
+unfoldable pub heard_json : ObjRef → List ℕ
+heard_json r = link_json r true ++ codes "}"
+
+unfoldable pub stopped_json : ObjRef → List ℕ
+stopped_json r = link_json r false ++ plain_text (codes "runs") (codes "false") ++ codes "}"
+
+unfoldable pub unlike_json : ObjRef → Option Value → List ℕ
+unlike_json r v = link_json r false ++ more_text (codes "waits for") (wanted_text v) ++ codes "}"
+
+abbrev pub heard_in : Form → ObjRef → List ℕ
+heard_in form.Text r = heard_note r
+heard_in form.Json r = heard_json r
+
+abbrev pub stopped_in : Form → ObjRef → List ℕ
+stopped_in form.Text r = stopped_note r
+stopped_in form.Json r = stopped_json r
+
+abbrev pub unlike_in : Form → ObjRef → Option Value → List ℕ
+unlike_in form.Text r v = unlike_note r v
+unlike_in form.Json r v = unlike_json r v
+
+abbrev pub ear_by : Form → Event → Object → List ℕ
+ear_by f e o =
     if o.body.running
-    then (if hears_data (wanted o) e.data then heard_note o.fixed.key else unlike_note o.fixed.key (wanted o))
-    else stopped_note o.fixed.key
+    then (if hears_data (wanted o) e.data then heard_in f o.fixed.key else unlike_in f o.fixed.key (wanted o))
+    else stopped_in f o.fixed.key
 
-abbrev pub ear : Event → Object → List ℕ
-ear e o = if waits e o then ear_by e o else []
+abbrev pub ear : Form → Event → Object → List ℕ
+ear f e o = if waits e o then ear_by f e o else []
 
-abbrev pub ears : Option Event → List Object → List ℕ
-ears None os = []
-ears (Some e) os = flat_map (ear e) os
+abbrev pub ears : Form → Option Event → List Object → List ℕ
+ears f None os = []
+ears f (Some e) os = flat_map (ear f e) os
 
 -- Keys
 

@@ -13,26 +13,21 @@ use Rattle.mh_model.specs.declared.object.Fixed.{Fixed}
 use Rattle.mh_model.specs.declared.object.Object.{Object}
 use Rattle.mh_model.specs.Items.{matches}
 use Rattle.mh_model.specs.Property.{held, as_effect}
-use Rattle.mh_model.specs.Reference.{same_ref, group_ref}
+use Rattle.mh_model.specs.Reference.{same_key, same_ref, group_ref}
 use Rattle.mh_model.specs.Service.{Service, part_at, group_parts}
 use Rattle.mh_model.specs.Tokens.{slot_items}
 use Rattle.mh_trace.specs.declared.site.EffectKind.{EffectKind}
 use Rattle.mh_trace.specs.declared.site.EffectKind.TheVariants as kind
 use Rattle.mh_trace.specs.declared.site.Site.{Site}
-
-abbrev pub same_kind : EffectKind → EffectKind → Bool
-same_kind kind.StartUp kind.StartUp = true
-same_kind kind.CloseDown kind.CloseDown = true
-same_kind kind.Link kind.Link = true
-same_kind (kind.Slot m s) (kind.Slot n t) = m == n && s == t
-same_kind _ _ = false
+use Rattle.mh_trace.specs.Kinds.{same_kind}
 
 -- the place is in this effect of this object
 abbrev pub is_in : ObjRef → EffectKind → Site → Bool
 is_in r k s = same_kind s.kind k && same_ref s.object r
 
+-- the same, as keys of a table are compared
 abbrev pub same_site : Site → Site → Bool
-same_site s t = is_in t.object t.kind s && s.number == t.number
+same_site s t = same_key s.object t.object && same_kind s.kind t.kind && s.number == t.number
 
 -- the places of the actions of an effect, of which the first has this number
 abbrev pub places_from : {A : Type 0} → ObjRef → EffectKind → ℕ → List A → List Site

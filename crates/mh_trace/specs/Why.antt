@@ -15,6 +15,7 @@ use Rattle.mh_model.specs.Property.{as_number}
 use Rattle.mh_model.specs.Service.{object_at}
 use Rattle.mh_model.specs.Step.{is_empty}
 use Rattle.mh_trace.specs.Changes.{given_text, short_value}
+use Rattle.mh_trace.specs.Json.{list_if, more_text, string_text}
 use Rattle.mh_trace.specs.declared.why.Why.{Why}
 use Rattle.mh_trace.specs.declared.why.Why.TheVariants as why
 
@@ -33,6 +34,18 @@ abbrev pub operands_note : Option Item → List Object → List ℕ
 operands_note (Some (item.Act a)) os = operands_of (values os a.arguments)
 operands_note i os = []
 
+-- the same as a member of an object
+
+unfoldable pub operand_json : Value → List ℕ
+operand_json v = codes "," ++ string_text (short_value v)
+
+abbrev pub operands_list : List Value → List ℕ
+operands_list vs = list_if (codes "with") (flat_map operand_json vs)
+
+abbrev pub operands_json : Option Item → List Object → List ℕ
+operands_json (Some (item.Act a)) os = operands_list (values os a.arguments)
+operands_json i os = []
+
 -- What is tested: the variable that an action is done to, with what it holds
 
 abbrev pub held_at : Option ObjRef → List Object → Option Value
@@ -49,6 +62,17 @@ tested_by _ v = []
 abbrev pub tested_note : Option Item → List Object → List ℕ
 tested_note (Some (item.Act a)) os = tested_by a.name (held_at (referred a.target os) os)
 tested_note i os = []
+
+abbrev pub held_json : Option Value → List ℕ
+held_json v = more_text (codes "holds") (given_text v)
+
+abbrev pub holds_json : ActionName → Option Value → List ℕ
+holds_json action.TestVariable v = held_json v
+holds_json _ v = []
+
+abbrev pub tested_json : Option Item → List Object → List ℕ
+tested_json (Some (item.Act a)) os = holds_json a.name (held_at (referred a.target os) os)
+tested_json i os = []
 
 -- Why nothing came of an action: by what it is done with, and by the number that is held
 

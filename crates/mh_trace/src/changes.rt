@@ -1,4 +1,12 @@
 //! What a step has made of objects, told part by part: how each was, and how it is.
+
+pub(crate) mod counts;
+pub(crate) mod json;
+pub(crate) mod life;
+pub(crate) mod parts;
+pub(crate) mod same;
+pub(crate) mod text;
+
 ghost use Rattle.std.specs.Prelude.{◌≡◌, ◌++◌, OnOk, IfOk};
 ghost use Rattle.std.specs.List.{flat_map};
 ghost use Rattle.std.specs.Option.{option_copied};
@@ -6,7 +14,10 @@ ghost use Rattle.mh_model.specs.Property.{value_held};
 ghost use Rattle.mh_model.specs.State.{all};
 ghost use Rattle.mh_trace.specs.Changes as spec;
 
-use crate::parts::{put_attribute, put_count, put_flag, put_items, put_loaded, put_value};
+use crate::changes::counts::put_counts;
+use crate::changes::life::put_life;
+use crate::changes::parts::{put_attribute, put_items, put_loaded, put_value};
+use crate::form::Form;
 use mh_base::{ObjRef, Value};
 use mh_group::Attribute;
 use mh_group::attribute::ALL;
@@ -17,38 +28,45 @@ use mh_told::text::Text;
 use std::alloc::{AllocError, Global};
 
 /// What has become of these objects among those that are present now.
-pub fn changes(alloc: Global, before: &[Object], objects: &Objects) -> Result<Text, AllocError>
-    ensures { IfOk result (λ text. text ≡ spec.notes before.now (all objects.now)) }
+pub fn changes(
+    alloc: Global,
+    form: Form,
+    before: &[Object],
+    objects: &Objects,
+) -> Result<Text, AllocError>
+    ensures { IfOk result (λ text. text ≡ spec.notes form before.now (all objects.now)) }
 {
     let mut text = Text::new(alloc);
-    put_all(alloc, &mut text, before, objects)?;
+    put_all(alloc, form, &mut text, before, objects)?;
     Ok(text)
 }
 
 fn put_all(
     alloc: Global,
+    form: Form,
     text: &mut Text,
     before: &[Object],
     objects: &Objects,
 ) -> Result<(), AllocError>
-    ensures { OnOk result (text.new ≡ text.old ++ spec.notes before.now (all objects.now)) }
+    ensures { OnOk result (text.new ≡ text.old ++ spec.notes form before.now (all objects.now)) }
 {
     for object in before {
-        put_among(alloc, text, object, objects)?;
+        put_among(alloc, form, text, object, objects)?;
     }
     Ok(())
 }
 
 fn put_among(
     alloc: Global,
+    form: Form,
     text: &mut Text,
     object: &Object,
     objects: &Objects,
 ) -> Result<(), AllocError>
-    ensures { OnOk result (text.new ≡ text.old ++ spec.notes_among (all objects.now) object.now) }
+    ensures { OnOk result (text.new ≡ text.old ++ spec.notes_among form (all objects.now) object.now) }
 {
     match objects.get(&object.fixed.get().key) {
-        Some(behind) => put_notes(alloc, text, object, &behind.body),
+        Some(behind) => put_notes(alloc, form, text, object, &behind.body),
         None => Ok(()),
     }
 }
@@ -56,110 +74,48 @@ fn put_among(
 #[tactic(auto, unfolding(crate::specs::Changes::notes_on))]
 fn put_notes(
     alloc: Global,
+    form: Form,
     text: &mut Text,
     object: &Object,
     behind: &Body,
 ) -> Result<(), AllocError>
-    ensures { OnOk result (text.new ≡ text.old ++ spec.notes_on object.now behind.now) }
+    ensures { OnOk result (text.new ≡ text.old ++ spec.notes_on form object.now behind.now) }
 {
     let at = &object.fixed.get().key;
-    put_life(text, at, &object.body, behind)?;
-    put_counts(text, at, &object.body, behind)?;
-    put_content(alloc, text, object, behind)?;
-    put_attributes(alloc, text, object, behind, &ALL)
-}
-
-#[tactic(auto, unfolding(crate::specs::Changes::life_notes))]
-fn put_life(text: &mut Text, at: &ObjRef, before: &Body, behind: &Body) -> Result<(), AllocError>
-    ensures { OnOk result (text.new ≡ text.old ++ spec.life_notes at.now before.now behind.now) }
-{
-    put_available(text, at, before.available, behind.available)?;
-    put_running(text, at, before.running, behind.running)?;
-    put_highlighted(text, at, before.highlighted, behind.highlighted)?;
-    put_selected(text, at, before.selected, behind.selected)?;
-    put_overwriting(text, at, before.overwrites, behind.overwrites)
-}
-
-#[tactic(auto, unfolding(crate::specs::Changes::available_note))]
-fn put_available(text: &mut Text, at: &ObjRef, before: bool, behind: bool) -> Result<(), AllocError>
-    ensures { OnOk result (text.new ≡ text.old ++ spec.available_note at.now before behind) }
-{
-    put_flag(text, at, b"available", before, behind)
-}
-
-#[tactic(auto, unfolding(crate::specs::Changes::running_note))]
-fn put_running(text: &mut Text, at: &ObjRef, before: bool, behind: bool) -> Result<(), AllocError>
-    ensures { OnOk result (text.new ≡ text.old ++ spec.running_note at.now before behind) }
-{
-    put_flag(text, at, b"running", before, behind)
-}
-
-#[tactic(auto, unfolding(crate::specs::Changes::highlighted_note))]
-fn put_highlighted(
-    text: &mut Text,
-    at: &ObjRef,
-    before: bool,
-    behind: bool,
-) -> Result<(), AllocError>
-    ensures { OnOk result (text.new ≡ text.old ++ spec.highlighted_note at.now before behind) }
-{
-    put_flag(text, at, b"highlighted", before, behind)
-}
-
-#[tactic(auto, unfolding(crate::specs::Changes::selected_note))]
-fn put_selected(text: &mut Text, at: &ObjRef, before: bool, behind: bool) -> Result<(), AllocError>
-    ensures { OnOk result (text.new ≡ text.old ++ spec.selected_note at.now before behind) }
-{
-    put_flag(text, at, b"selected", before, behind)
-}
-
-#[tactic(auto, unfolding(crate::specs::Changes::overwriting_note))]
-fn put_overwriting(
-    text: &mut Text,
-    at: &ObjRef,
-    before: bool,
-    behind: bool,
-) -> Result<(), AllocError>
-    ensures { OnOk result (text.new ≡ text.old ++ spec.overwriting_note at.now before behind) }
-{
-    put_flag(text, at, b"overwriting", before, behind)
-}
-
-#[tactic(auto, unfolding(crate::specs::Changes::count_notes))]
-fn put_counts(text: &mut Text, at: &ObjRef, before: &Body, behind: &Body) -> Result<(), AllocError>
-    ensures { OnOk result (text.new ≡ text.old ++ spec.count_notes at.now before.now behind.now) }
-{
-    put_count(text, at, b"token ", before.token, behind.token)?;
-    put_count(text, at, b"entry point ", before.point, behind.point)?;
-    put_count(
-        text,
-        at,
-        b"drawings ",
-        before.drawings.len(),
-        behind.drawings.len(),
-    )?;
-    put_count(
-        text,
-        at,
-        b"first item ",
-        before.list.first(),
-        behind.list.first(),
-    )
+    put_life(alloc, form, text, at, &object.body, behind)?;
+    put_counts(alloc, form, text, at, &object.body, behind)?;
+    put_content(alloc, form, text, object, behind)?;
+    put_attributes(alloc, form, text, object, behind, &ALL)
 }
 
 #[tactic(auto, unfolding(crate::specs::Changes::content_notes))]
 fn put_content(
     alloc: Global,
+    form: Form,
     text: &mut Text,
     object: &Object,
     behind: &Body,
 ) -> Result<(), AllocError>
-    ensures { OnOk result (text.new ≡ text.old ++ spec.content_notes object.now behind.now) }
+    ensures { OnOk result (text.new ≡ text.old ++ spec.content_notes form object.now behind.now) }
 {
     let at = &object.fixed.get().key;
-    put_value(alloc, text, at, object.value(), held_value(object, behind))?;
-    put_loaded(text, at, &object.body.text, &behind.text)?;
-    put_items(text, at, object.body.list.entries(), behind.list.entries())
+    put_value(
+        alloc,
+        form,
+        text,
+        at,
+        object.value(),
+        held_value(object, behind),
+    )?;
+    put_loaded(alloc, form, text, at, &object.body.text, &behind.text)?;
+    put_items(
+        alloc,
+        form,
+        text,
+        at,
+        object.body.list.entries(),
+        behind.list.entries(),
+    )
 }
 
 /// The value that the object holds where this is its body.
@@ -174,33 +130,43 @@ fn held_value<'a>(object: &'a Object, behind: &'a Body) -> Option<&'a Value>
 
 fn put_attributes(
     alloc: Global,
+    form: Form,
     text: &mut Text,
     object: &Object,
     behind: &Body,
     attributes: &[Attribute],
 ) -> Result<(), AllocError>
     ensures { OnOk result (text.new
-        ≡ text.old ++ flat_map (spec.attribute_note object.now behind.now) attributes.now) }
+        ≡ text.old ++ flat_map (spec.attribute_note form object.now behind.now) attributes.now) }
 {
     for attribute in attributes {
-        put_attribute_of(alloc, text, object, behind, *attribute)?;
+        put_attribute_of(alloc, form, text, object, behind, *attribute)?;
     }
     Ok(())
 }
 
 fn put_attribute_of(
     alloc: Global,
+    form: Form,
     text: &mut Text,
     object: &Object,
     behind: &Body,
     attribute: Attribute,
 ) -> Result<(), AllocError>
-    ensures { OnOk result (text.new ≡ text.old ++ spec.attribute_note object.now behind.now attribute) }
+    ensures { OnOk result (text.new ≡ text.old ++ spec.attribute_note form object.now behind.now attribute) }
 {
     match behind.changes.get(attribute) {
         Some(held) => {
             let at = &object.fixed.get().key;
-            put_attribute(alloc, text, at, attribute, object.read(attribute), held)
+            put_attribute(
+                alloc,
+                form,
+                text,
+                at,
+                attribute,
+                object.read(attribute),
+                held,
+            )
         }
         None => Ok(()),
     }

@@ -1,15 +1,20 @@
 //! What traces have covered of a service: which actions of each effect were done, and which groups were entered.
+
+pub(crate) mod row;
+pub(crate) mod rows;
+
 ghost use Rattle.std.specs.Prelude.{◌≡◌, ◌++◌, ◌≤◌, OnOk, IfOk, length};
 ghost use Rattle.mh_trace.specs.Cover as spec;
-ghost use Rattle.mh_trace.specs.Trace.{written_at};
+ghost use Rattle.mh_trace.specs.Directory.{written_at};
 
-use crate::directory::put_written;
-use crate::places::{add_name, add_site};
-use crate::row::{GroupRow, Row};
-use crate::rows::{all_groups, all_rows};
+use crate::cover::row::{GroupRow, Row};
+use crate::cover::rows::{all_groups, all_rows};
+use crate::directory::Directory;
 use crate::site::Site;
 use crate::tracer::Tracer;
+use crate::tracer::places::{add_name, add_site};
 use crate::words::put_place;
+use indexmap::IndexSet;
 use mh_base::GroupName;
 use mh_service::Service;
 use mh_told::text::Text;
@@ -19,8 +24,8 @@ use std::marker::Model;
 /// What several scripts have done and entered, each once.
 #[derive(Drop)]
 pub struct Covered {
-    done: Vec<Site>,
-    entered: Vec<GroupName>,
+    done: IndexSet<Site>,
+    entered: IndexSet<GroupName>,
 }
 
 impl Model for Covered {
@@ -28,7 +33,7 @@ impl Model for Covered {
 
     ghost Value = { Covering };
 
-    ghost view = { λ c. record { done = c.done.items; entered = c.entered.items } };
+    ghost view = { λ c. record { done = c.done.keys; entered = c.entered.keys } };
 }
 
 impl Covered {
@@ -37,8 +42,8 @@ impl Covered {
         ensures { result ≡ spec.uncovered }
     {
         Covered {
-            done: Vec::new(alloc),
-            entered: Vec::new(alloc),
+            done: IndexSet::new(alloc),
+            entered: IndexSet::new(alloc),
         }
     }
 
@@ -55,13 +60,13 @@ impl Covered {
         &self,
         alloc: Global,
         service: &Service,
-        directory: &[(Site, Text)],
+        directory: &Directory,
         tap: bool,
     ) -> Result<Text, AllocError>
         ensures { IfOk result (λ text. text ≡ spec.cover_text tap directory.now self.now service.now) }
     {
-        let rows = all_rows(alloc, service, self.done.as_slice())?;
-        let groups = all_groups(alloc, service, self.entered.as_slice())?;
+        let rows = all_rows(alloc, service, &self.done)?;
+        let groups = all_groups(alloc, service, &self.entered)?;
         let mut text = Text::new(alloc);
         put_cover(
             &mut text,
@@ -74,8 +79,8 @@ impl Covered {
     }
 }
 
-fn add_sites(sites: &mut Vec<Site>, more: &[Site]) -> Result<(), AllocError>
-    ensures { OnOk result (sites.new.items ≡ spec.add_sites sites.old.items more.now) }
+fn add_sites(sites: &mut IndexSet<Site>, more: &[Site]) -> Result<(), AllocError>
+    ensures { OnOk result (sites.new.keys ≡ spec.add_sites sites.old.keys more.now) }
 {
     for site in more {
         add_site(sites, site.copied()?)?;
@@ -83,8 +88,8 @@ fn add_sites(sites: &mut Vec<Site>, more: &[Site]) -> Result<(), AllocError>
     Ok(())
 }
 
-fn add_names(names: &mut Vec<GroupName>, more: &[GroupName]) -> Result<(), AllocError>
-    ensures { OnOk result (names.new.items ≡ spec.add_names names.old.items more.now) }
+fn add_names(names: &mut IndexSet<GroupName>, more: &[GroupName]) -> Result<(), AllocError>
+    ensures { OnOk result (names.new.keys ≡ spec.add_names names.old.keys more.now) }
 {
     for name in more {
         add_name(names, name)?;
@@ -96,7 +101,7 @@ fn add_names(names: &mut Vec<GroupName>, more: &[GroupName]) -> Result<(), Alloc
 fn put_cover(
     text: &mut Text,
     tap: bool,
-    directory: &[(Site, Text)],
+    directory: &Directory,
     rows: &[Row],
     groups: &[GroupRow],
 ) -> Result<(), AllocError>
@@ -125,7 +130,7 @@ fn put_plan(text: &mut Text, tap: bool, count: u64) -> Result<(), AllocError>
 fn put_rows(
     text: &mut Text,
     tap: bool,
-    directory: &[(Site, Text)],
+    directory: &Directory,
     rows: &[Row],
 ) -> Result<(), AllocError>
     ensures { OnOk result (text.new ≡ text.old ++ spec.row_lines tap directory.now rows.now) }
@@ -137,12 +142,7 @@ fn put_rows(
 }
 
 #[tactic(auto, unfolding(crate::specs::Cover::row_line))]
-fn put_row(
-    text: &mut Text,
-    tap: bool,
-    directory: &[(Site, Text)],
-    row: &Row,
-) -> Result<(), AllocError>
+fn put_row(text: &mut Text, tap: bool, directory: &Directory, row: &Row) -> Result<(), AllocError>
     ensures { OnOk result (text.new ≡ text.old ++ spec.row_line tap directory.now row.now) }
 {
     text.put(row_word(tap, row))?;
@@ -164,11 +164,11 @@ fn put_counts(text: &mut Text, row: &Row) -> Result<(), AllocError>
 }
 
 /// Puts where the first action of an effect is written.
-fn put_first_place(text: &mut Text, directory: &[(Site, Text)], row: &Row) -> Result<(), AllocError>
+fn put_first_place(text: &mut Text, directory: &Directory, row: &Row) -> Result<(), AllocError>
     ensures { OnOk result (text.new ≡ text.old ++ written_at directory.now (spec.first_site row.now)) }
 {
     let site = first_site(row)?;
-    put_written(text, directory, &site)
+    directory.put_written(text, &site)
 }
 
 /// The first action of an effect.

@@ -1,4 +1,10 @@
 //! What a step lets links hear, and what each link that waits for it makes of it.
+
+pub(crate) mod hearing;
+pub(crate) mod json;
+pub(crate) mod listening;
+pub(crate) mod text;
+
 ghost use Rattle.std.specs.Prelude.{◌≡◌, ◌++◌, [], None, Some, OnOk, IfOk};
 ghost use Rattle.std.specs.List.{flat_map};
 ghost use Rattle.std.specs.Option.{option_copied, option_map_or};
@@ -7,9 +13,12 @@ ghost use Rattle.mh_model.specs.State.{all};
 ghost use Rattle.mh_trace.specs.Ears as spec;
 ghost use Rattle.mh_trace.specs.Listening.{IsIndexOf, at_place};
 
-use crate::hearing::{hears_data, waits, wanted};
-use crate::listening::{Listening, places};
-use crate::words::{put_integer, put_ref, put_value};
+use crate::ears::hearing::{hears_data, waits, wanted};
+use crate::ears::json::{put_heard_json, put_stopped_json, put_unlike_json};
+use crate::ears::listening::{Listening, places};
+use crate::ears::text::{put_heard, put_stopped, put_unlike};
+use crate::form::Form;
+use crate::words::{put_integer, put_ref};
 use mh_base::{GroupName, ObjRef, Value};
 use mh_machine::{Machine, engine_event, key_event, register_of};
 use mh_model::parts::group_ref;
@@ -22,32 +31,35 @@ use std::alloc::{AllocError, Global};
 /// their links.
 pub fn put_ears(
     alloc: Global,
+    form: Form,
     text: &mut Text,
     told: &Option<Event>,
     objects: &Objects,
     listening: &Listening,
 ) -> Result<(), AllocError>
     requires { IsIndexOf listening.now.entries (parts (all objects.now)) }
-    ensures { OnOk result (text.new ≡ text.old ++ spec.ears told.now (all objects.now)) }
+    ensures { OnOk result (text.new ≡ text.old ++ spec.ears form told.now (all objects.now)) }
 {
     match told {
-        Some(event) => put_all_ears(alloc, text, event, objects, listening),
+        Some(event) => put_all_ears(alloc, form, text, event, objects, listening),
         None => Ok(()),
     }
 }
 
 fn put_all_ears(
     alloc: Global,
+    form: Form,
     text: &mut Text,
     event: &Event,
     objects: &Objects,
     listening: &Listening,
 ) -> Result<(), AllocError>
     requires { IsIndexOf listening.now.entries (parts (all objects.now)) }
-    ensures { OnOk result (text.new ≡ text.old ++ spec.ears (Some event.now) (all objects.now)) }
+    ensures { OnOk result (text.new ≡ text.old ++ spec.ears form (Some event.now) (all objects.now)) }
 {
     put_ears_at(
         alloc,
+        form,
         text,
         event,
         objects,
@@ -58,40 +70,48 @@ fn put_all_ears(
 
 fn put_ears_at(
     alloc: Global,
+    form: Form,
     text: &mut Text,
     event: &Event,
     objects: &Objects,
     places: &[usize],
 ) -> Result<(), AllocError>
     ensures { OnOk result (text.new
-        ≡ text.old ++ flat_map (at_place (spec.ear event.now) (all objects.now)) places.now) }
+        ≡ text.old ++ flat_map (at_place (spec.ear form event.now) (all objects.now)) places.now) }
 {
     for place in places {
-        put_ear_at(alloc, text, event, objects.at(*place))?;
+        put_ear_at(alloc, form, text, event, objects.at(*place))?;
     }
     Ok(())
 }
 
 fn put_ear_at(
     alloc: Global,
+    form: Form,
     text: &mut Text,
     event: &Event,
     found: Option<&Object>,
 ) -> Result<(), AllocError>
     ensures { OnOk result (text.new
-        ≡ text.old ++ option_map_or (spec.ear event.now) (option_copied found.entry) []) }
+        ≡ text.old ++ option_map_or (spec.ear form event.now) (option_copied found.entry) []) }
 {
     match found {
-        Some(object) => put_ear(alloc, text, event, object),
+        Some(object) => put_ear(alloc, form, text, event, object),
         None => Ok(()),
     }
 }
 
-fn put_ear(alloc: Global, text: &mut Text, event: &Event, object: &Object) -> Result<(), AllocError>
-    ensures { OnOk result (text.new ≡ text.old ++ spec.ear event.now object.now) }
+fn put_ear(
+    alloc: Global,
+    form: Form,
+    text: &mut Text,
+    event: &Event,
+    object: &Object,
+) -> Result<(), AllocError>
+    ensures { OnOk result (text.new ≡ text.old ++ spec.ear form event.now object.now) }
 {
     if waits(event, object) {
-        put_ear_by(alloc, text, event, object)
+        put_ear_by(alloc, form, text, event, object)
     } else {
         Ok(())
     }
@@ -99,74 +119,55 @@ fn put_ear(alloc: Global, text: &mut Text, event: &Event, object: &Object) -> Re
 
 fn put_ear_by(
     alloc: Global,
+    form: Form,
     text: &mut Text,
     event: &Event,
     object: &Object,
 ) -> Result<(), AllocError>
-    ensures { OnOk result (text.new ≡ text.old ++ spec.ear_by event.now object.now) }
+    ensures { OnOk result (text.new ≡ text.old ++ spec.ear_by form event.now object.now) }
 {
     let at = &object.fixed.get().key;
     if !object.body.running {
-        return put_stopped(text, at);
+        return put_stopped_in(alloc, form, text, at);
     }
     if hears_data(wanted(object), &event.data) {
-        put_heard(text, at)
+        put_heard_in(alloc, form, text, at)
     } else {
-        put_unlike(alloc, text, at, wanted(object))
+        put_unlike_in(alloc, form, text, at, wanted(object))
     }
 }
 
-#[tactic(auto, unfolding(crate::specs::Ears::heard_note))]
-fn put_heard(text: &mut Text, at: &ObjRef) -> Result<(), AllocError>
-    ensures { OnOk result (text.new ≡ text.old ++ spec.heard_note at.now) }
+fn put_heard_in(alloc: Global, form: Form, text: &mut Text, at: &ObjRef) -> Result<(), AllocError>
+    ensures { OnOk result (text.new ≡ text.old ++ spec.heard_in form at.now) }
 {
-    text.put(b"; heard by ")?;
-    put_ref(text, at)
+    match form {
+        Form::Text => put_heard(text, at),
+        Form::Json => put_heard_json(alloc, text, at),
+    }
 }
 
-#[tactic(auto, unfolding(crate::specs::Ears::stopped_note))]
-fn put_stopped(text: &mut Text, at: &ObjRef) -> Result<(), AllocError>
-    ensures { OnOk result (text.new ≡ text.old ++ spec.stopped_note at.now) }
+fn put_stopped_in(alloc: Global, form: Form, text: &mut Text, at: &ObjRef) -> Result<(), AllocError>
+    ensures { OnOk result (text.new ≡ text.old ++ spec.stopped_in form at.now) }
 {
-    put_unheard(text, at)?;
-    text.put(b", which does not run")
+    match form {
+        Form::Text => put_stopped(text, at),
+        Form::Json => put_stopped_json(alloc, text, at),
+    }
 }
 
-#[tactic(auto, unfolding(crate::specs::Ears::unheard_note))]
-fn put_unheard(text: &mut Text, at: &ObjRef) -> Result<(), AllocError>
-    ensures { OnOk result (text.new ≡ text.old ++ spec.unheard_note at.now) }
-{
-    text.put(unheard_word())?;
-    put_ref(text, at)
-}
-
-#[tactic(auto, unfolding(crate::specs::Ears::unheard_word))]
-fn unheard_word() -> &'static [u8]
-    ensures { result.now ≡ spec.unheard_word }
-{
-    b"; not heard by "
-}
-
-#[tactic(auto, unfolding(crate::specs::Ears::unlike_note))]
-fn put_unlike(
+fn put_unlike_in(
     alloc: Global,
+    form: Form,
     text: &mut Text,
     at: &ObjRef,
     wanted: Option<&Value>,
 ) -> Result<(), AllocError>
-    ensures { OnOk result (text.new ≡ text.old ++ spec.unlike_note at.now (option_copied wanted.entry)) }
+    ensures { OnOk result (text.new
+        ≡ text.old ++ spec.unlike_in form at.now (option_copied wanted.entry)) }
 {
-    put_unheard(text, at)?;
-    text.put(b", which waits for ")?;
-    put_wanted(alloc, text, wanted)
-}
-
-fn put_wanted(alloc: Global, text: &mut Text, wanted: Option<&Value>) -> Result<(), AllocError>
-    ensures { OnOk result (text.new ≡ text.old ++ spec.wanted_text (option_copied wanted.entry)) }
-{
-    match wanted {
-        Some(value) => put_value(alloc, text, value),
-        None => Ok(()),
+    match form {
+        Form::Text => put_unlike(alloc, text, at, wanted),
+        Form::Json => put_unlike_json(alloc, text, at, wanted),
     }
 }
 

@@ -1,14 +1,19 @@
 //! The beginning of the line of a step: its number, its entry, and who hears what it tells.
-ghost use Rattle.std.specs.Prelude.{◌≡◌, ◌++◌, ◌+◌, ◌<◌, ◌^◌, OnOk, slice_get};
+
+pub(crate) mod json;
+
+ghost use Rattle.std.specs.Prelude.{◌≡◌, ◌++◌, ◌+◌, ◌<◌, ◌^◌, OnOk};
 ghost use Rattle.std.specs.Option.{option_copied};
 ghost use Rattle.mh_model.specs.Service.{parts};
 ghost use Rattle.mh_model.specs.State.{all};
 ghost use Rattle.mh_trace.specs.Listening.{IsIndexOf};
-ghost use Rattle.mh_trace.specs.Trace as spec;
+ghost use Rattle.mh_trace.specs.Head as spec;
 
 use crate::directory::Directory;
+use crate::ears::listening::Listening;
 use crate::ears::{put_ears, put_key_note, told};
-use crate::listening::Listening;
+use crate::form::Form;
+use crate::head::json::put_head_json;
 use crate::seen::place_of;
 use crate::site::Site;
 use crate::why::{put_operands, put_tested};
@@ -23,8 +28,29 @@ use std::alloc::{AllocError, Global};
 use std::collections::VecDeque;
 
 /// Puts the beginning of the line of the next step, which does this item, or takes what waits where there is none.
-#[tactic(auto, unfolding(crate::specs::Trace::head_by))]
 pub fn put_head(
+    alloc: Global,
+    form: Form,
+    text: &mut Text,
+    front: &Option<Item>,
+    machine: &Machine,
+    places: &VecDeque<Site>,
+    directory: &Directory,
+    listening: &Listening,
+) -> Result<(), AllocError>
+    requires room { machine.now.taken + 1 < 2 ^ 64 }
+    requires index { IsIndexOf listening.now.entries (parts (all machine.now.objects)) }
+    ensures { OnOk result (text.new
+        ≡ text.old ++ spec.head_by form directory.now front.now (spec.first machine.now) machine.now places.now.items) }
+{
+    match form {
+        Form::Text => put_head_text(alloc, text, front, machine, places, directory, listening),
+        Form::Json => put_head_json(alloc, text, front, machine, places, directory, listening),
+    }
+}
+
+#[tactic(auto, unfolding(crate::specs::Head::head_text))]
+fn put_head_text(
     alloc: Global,
     text: &mut Text,
     front: &Option<Item>,
@@ -36,7 +62,7 @@ pub fn put_head(
     requires room { machine.now.taken + 1 < 2 ^ 64 }
     requires index { IsIndexOf listening.now.entries (parts (all machine.now.objects)) }
     ensures { OnOk result (text.new
-        ≡ text.old ++ spec.head_by directory.now front.now (spec.first machine.now) machine.now places.now.items) }
+        ≡ text.old ++ spec.head_text directory.now front.now (spec.first machine.now) machine.now places.now.items) }
 {
     let waiting = machine.queue().first();
     put_number(text, machine.taken() + 1)?;
@@ -47,10 +73,10 @@ pub fn put_head(
     put_tested(alloc, text, front, machine.objects())?;
     put_keyed(alloc, text, front, waiting, machine)?;
     let told = told(front, waiting, machine)?;
-    put_ears(alloc, text, &told, machine.objects(), listening)
+    put_ears(alloc, Form::Text, text, &told, machine.objects(), listening)
 }
 
-#[tactic(auto, unfolding(crate::specs::Trace::number_text))]
+#[tactic(auto, unfolding(crate::specs::Head::number_text))]
 fn put_number(text: &mut Text, number: u64) -> Result<(), AllocError>
     ensures { OnOk result (text.new ≡ text.old ++ spec.number_text number) }
 {
@@ -58,7 +84,7 @@ fn put_number(text: &mut Text, number: u64) -> Result<(), AllocError>
     text.put(b" ")
 }
 
-fn put_entry(
+pub fn put_entry(
     alloc: Global,
     text: &mut Text,
     front: &Option<Item>,
@@ -133,7 +159,7 @@ fn put_found(text: &mut Text, found: Option<&ObjRef>) -> Result<(), AllocError>
     }
 }
 
-fn put_keyed(
+pub fn put_keyed(
     alloc: Global,
     text: &mut Text,
     front: &Option<Item>,

@@ -5,33 +5,29 @@
 //! are read as a service, and where a trace goes, is left to the caller.
 #![tactic(auto)]
 
-mod calls;
 mod changes;
 pub mod cover;
-mod described;
 mod directory;
 mod ears;
+pub mod form;
 mod head;
-mod hearing;
-mod listening;
+pub mod json;
 mod outcome;
-mod parts;
-mod pieces;
-mod places;
-mod quiet;
-mod row;
-mod rows;
 pub mod run;
 mod seen;
-mod short;
+pub mod short;
 pub mod site;
 mod sites;
-mod touched;
 pub mod tracer;
 mod why;
 pub mod words;
 
+pub use changes::json::shown_ref;
 pub use cover::Covered;
+pub use directory::Directory;
+pub use form::{Form, Telling};
+pub use seen::glance::copied_refs;
 pub use site::{EffectKind, Site};
 pub use tracer::Tracer;
+pub use tracer::calls::{post_copy, preset_copy};
 pub use words::put_ref;

@@ -1,6 +1,11 @@
 //! What is seen of a state before its step.
-ghost use Rattle.std.specs.Prelude.{◌≡◌, ◌++◌, ◌&&◌, [], None, OnOk, IfOk, length, slice_get};
-ghost use Rattle.std.specs.Option.{option_copied};
+
+pub(crate) mod closing;
+pub(crate) mod glance;
+pub(crate) mod quiet;
+pub(crate) mod touched;
+
+ghost use Rattle.std.specs.Prelude.{◌≡◌, ◌&&◌, None, IfOk, length, slice_get};
 ghost use Rattle.mh_model.specs.Service.{parts};
 ghost use Rattle.mh_model.specs.State.{all};
 ghost use Rattle.mh_model.specs.Rules.{is_begun};
@@ -10,24 +15,26 @@ ghost use Rattle.mh_trace.specs.declared.site.EffectKind.TheVariants as kind;
 ghost use Rattle.mh_trace.specs.Ears as ears_spec;
 ghost use Rattle.mh_trace.specs.Listening.{IsIndexOf};
 ghost use Rattle.mh_trace.specs.Sites as sites_spec;
+ghost use Rattle.mh_trace.specs.Head.{place_of};
+ghost use Rattle.mh_trace.specs.Outcome.{is_fault};
 ghost use Rattle.mh_trace.specs.Trace as spec;
 
-use crate::described::described;
+use crate::ears::listening::Listening;
 use crate::ears::told;
-use crate::listening::Listening;
-use crate::quiet::is_quiet;
+use crate::seen::closing::closing;
+use crate::seen::glance::{Glance, glance_of};
+use crate::seen::quiet::is_quiet;
+use crate::seen::touched::{restacks, touched};
 use crate::site::Site;
-use crate::sites::{heard_sites, push_close_down, push_start_up, slot_sites};
-use crate::touched::{restacks, touched};
+use crate::sites::{heard_sites, push_start_up, slot_sites};
 use crate::why::{Why, why_of};
 use mh_actions::arguments::{referred, values};
 use mh_base::{GroupName, Seq};
 use mh_group::ActionName;
 use mh_machine::{Machine, Stepped};
-use mh_model::{Act, Event, Item, Object, Transition, Waiting};
+use mh_model::{Act, Event, Item, Object, Transition};
 use mh_service::Service;
 use mh_store::Objects;
-use mh_told::text::Text;
 use std::alloc::{AllocError, Global};
 use std::collections::VecDeque;
 
@@ -49,7 +56,7 @@ pub struct Seen {
     /// Whether the entry may change the display stack beside an object that becomes available.
     pub stacks: bool,
     /// What is looked at besides objects.
-    pub described: Text,
+    pub glance: Glance,
     /// The objects that the step may change, as they are before it.
     pub touched: Seq<Object>,
     /// Why nothing would come of the entry.
@@ -73,7 +80,7 @@ pub fn see(
     let closing = closing(alloc, front, machine)?;
     let waiting = waiting_left(front, machine);
     let stacks = restacks(front);
-    let described = described(alloc, stacks, waiting, machine)?;
+    let glance = glance_of(alloc, stacks, waiting, machine)?;
     let touched = touched(alloc, front, machine)?;
     let begun = is_begun(machine.transition());
     let why = why_of(alloc, front, begun, machine.objects())?;
@@ -92,7 +99,7 @@ pub fn see(
         begun,
         quiet,
         stacks,
-        described,
+        glance,
         touched,
         why,
         place,
@@ -133,14 +140,14 @@ pub fn starts(begun: bool, machine: &Machine) -> bool
 }
 
 pub fn is_fault(answer: &Stepped) -> bool
-    ensures { result ≡ spec.is_fault answer.now }
+    ensures { result ≡ is_fault answer.now }
 {
     matches!(answer, Stepped::Faulted(_))
 }
 
 /// Where the action stands that is done, if one is.
 pub fn place_of(front: &Option<Item>, places: &VecDeque<Site>) -> Result<Option<Site>, AllocError>
-    ensures { IfOk result (λ place. place ≡ spec.place_of front.now places.now.items) }
+    ensures { IfOk result (λ place. place ≡ place_of front.now places.now.items) }
 {
     match front {
         Some(Item::Act(_)) => first_of(places),
@@ -254,29 +261,4 @@ fn slot_called(alloc: Global, act: &Act, objects: &Objects) -> Result<Vec<Site>,
         None => None,
     };
     slot_sites(alloc, values.as_slice(), found)
-}
-
-/// Where the actions stand that a transition puts when it begins: those with which the scene closes down, and then
-/// the application, where that is left, too.
-fn closing(alloc: Global, front: &Option<Item>, machine: &Machine) -> Result<Seq<Site>, AllocError>
-    ensures { IfOk result (λ sites. sites ≡ spec.closing front.now machine.now) }
-{
-    let mut sites = Vec::new(alloc);
-    if let Some(scene) = machine.scene() {
-        push_close_down(&mut sites, machine.service(), scene)?;
-    }
-    if leaves(front) {
-        push_close_down(&mut sites, machine.service(), machine.application())?;
-    }
-    Ok(Seq::from_vec(sites))
-}
-
-/// Whether the item leaves the application.
-fn leaves(front: &Option<Item>) -> bool
-    ensures { result ≡ spec.leaves front.now }
-{
-    match front {
-        Some(Item::Act(act)) => matches!(act.name, ActionName::Launch | ActionName::Quit),
-        _ => false,
-    }
 }

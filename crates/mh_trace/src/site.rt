@@ -1,13 +1,16 @@
 //! Places of actions: in which effect of which object they stand, and which of its actions they are.
 ghost use Rattle.std.specs.Prelude.{◌≡◌, IfOk};
+ghost use Rattle.std.specs.Cmp.{partial_equiv_from_equiv};
+ghost use Rattle.mh_trace.specs.Kinds.{kind_fed, kind_laws, kinds_alike, same_kind};
 ghost use Rattle.mh_trace.specs.Sites as spec;
 
 use mh_base::ObjRef;
 use mh_model::parts::same_ref;
 use std::alloc::AllocError;
+use std::hash::{Hash, Hasher};
 
 /// Which of an object's effects is meant (ISO/IEC 13522-5: OnStartUp, OnCloseDown, LinkEffect, ActionSlots).
-#[derive(Clone, Copy, PartialEq, Eq)]
+#[derive(Clone, Copy)]
 pub enum EffectKind {
     StartUp,
     CloseDown,
@@ -19,7 +22,7 @@ pub enum EffectKind {
 impl EffectKind {
     /// Whether both are the same effect of an object.
     pub fn is_same(self, other: EffectKind) -> bool
-        ensures { result ≡ spec.same_kind self other }
+        ensures { result ≡ same_kind self other }
     {
         match (self, other) {
             (EffectKind::StartUp, EffectKind::StartUp) => true,
@@ -33,8 +36,41 @@ impl EffectKind {
     }
 }
 
-/// Where an action stands.
-#[derive(Clone, Drop)]
+impl PartialEq for EffectKind {
+    ghost eq = { same_kind };
+
+    ghost laws = { partial_equiv_from_equiv kind_laws };
+
+    fn eq(&self, other: &EffectKind) -> bool {
+        self.is_same(*other)
+    }
+}
+
+impl Eq for EffectKind {
+    ghost laws = { kind_laws };
+}
+
+impl Hash for EffectKind {
+    ghost hash_input = { kind_fed };
+
+    ghost respects_eq = { kinds_alike };
+
+    fn hash<H: Hasher>(&self, state: &mut H) {
+        match self {
+            EffectKind::StartUp => state.write_u8(0),
+            EffectKind::CloseDown => state.write_u8(1),
+            EffectKind::Link => state.write_u8(2),
+            EffectKind::Slot(member, slot) => {
+                state.write_u8(3);
+                member.hash(state);
+                slot.hash(state);
+            }
+        }
+    }
+}
+
+/// Where an action stands. Tables have it as their key.
+#[derive(Clone, Drop, PartialEq, Eq, Hash)]
 pub struct Site {
     pub object: ObjRef,
     pub kind: EffectKind,
@@ -43,13 +79,6 @@ pub struct Site {
 }
 
 impl Site {
-    /// Whether both are one place.
-    pub fn is_same(&self, other: &Site) -> bool
-        ensures { result ≡ spec.same_site self.now other.now }
-    {
-        self.is_in(&other.object, other.kind) && self.number == other.number
-    }
-
     /// Whether it is in this effect of this object.
     pub fn is_in(&self, object: &ObjRef, kind: EffectKind) -> bool
         ensures { result ≡ spec.is_in object.now kind self.now }

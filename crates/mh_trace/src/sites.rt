@@ -3,7 +3,6 @@ ghost use Rattle.std.specs.Prelude.{◌≡◌, ◌++◌, [], OnOk, IfOk};
 ghost use Rattle.std.specs.List.{flat_map};
 ghost use Rattle.std.specs.Option.{option_copied, option_map_or};
 ghost use Rattle.mh_group.specs.declared.attribute.Attribute.TheVariants as attribute;
-ghost use Rattle.mh_model.specs.Property.{held, as_effect};
 ghost use Rattle.mh_model.specs.Items.{acts};
 ghost use Rattle.mh_model.specs.Service.{parts};
 ghost use Rattle.mh_model.specs.State.{all};
@@ -11,8 +10,8 @@ ghost use Rattle.mh_model.specs.Tokens.{slot_items};
 ghost use Rattle.mh_trace.specs.Listening.{IsIndexOf, at_place};
 ghost use Rattle.mh_trace.specs.Sites as spec;
 
-use crate::hearing::hears;
-use crate::listening::{Listening, places};
+use crate::ears::hearing::hears;
+use crate::ears::listening::{Listening, places};
 use crate::site::{EffectKind, Site};
 use mh_base::{GroupName, ObjRef, Value};
 use mh_group::Attribute;
@@ -22,6 +21,20 @@ use mh_service::Service;
 use mh_store::Objects;
 use mh_widgets::tokens::slot_of;
 use std::alloc::{AllocError, Global};
+
+/// The places of all actions of an effect.
+pub fn places_in(
+    alloc: Global,
+    object: &ObjRef,
+    kind: EffectKind,
+    acts: &[Act],
+) -> Result<Vec<Site>, AllocError>
+    ensures { IfOk result (λ sites. sites.items ≡ spec.places_in object.now kind acts.now) }
+{
+    let mut sites = Vec::new(alloc);
+    push_places(&mut sites, object, kind, acts)?;
+    Ok(sites)
+}
 
 /// Adds the places of all actions of an effect.
 fn push_places(

@@ -1,4 +1,7 @@
 //! With what values an action is done, and why nothing came of one that would have changed something.
+
+pub(crate) mod json;
+
 ghost use Rattle.std.specs.Prelude.{◌≡◌, ◌++◌, IfOk, OnOk};
 ghost use Rattle.std.specs.List.{flat_map};
 ghost use Rattle.std.specs.Option.{option_copied};
@@ -133,7 +136,7 @@ fn put_tested_text(alloc: Global, text: &mut Text, held: Option<&Value>) -> Resu
 }
 
 /// What the variable holds that an action is done to.
-fn held_at<'a>(objects: &'a Objects, target: &'a Target) -> Option<&'a Value>
+pub fn held_at<'a>(objects: &'a Objects, target: &'a Target) -> Option<&'a Value>
     ensures { let os = all objects.now in
         option_copied result ≡ spec.held_at (said.referred target.now os) os }
 {

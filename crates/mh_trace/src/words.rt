@@ -2,7 +2,7 @@
 //!
 //! Nothing of what files hold gives a terminal an order: names have visible characters and spaces, and any
 //! other octet of a value is shown as a dot.
-ghost use Rattle.std.specs.Prelude.{◌≡◌, ◌++◌, OnOk, codes};
+ghost use Rattle.std.specs.Prelude.{◌≡◌, ◌++◌, OnOk};
 ghost use Rattle.std.specs.Fmt.{signed_decimal};
 ghost use Rattle.mh_trace.specs.Words as spec;
 
@@ -38,7 +38,7 @@ pub fn put_value(alloc: Global, text: &mut Text, value: &Value) -> Result<(), Al
 }
 
 #[tactic(auto, unfolding(crate::specs::Words::truth_text))]
-fn put_truth(text: &mut Text, truth: bool) -> Result<(), AllocError>
+pub fn put_truth(text: &mut Text, truth: bool) -> Result<(), AllocError>
     ensures { OnOk result (text.new ≡ text.old ++ spec.truth_text truth) }
 {
     if truth {

@@ -1,10 +1,10 @@
 -- Where actions are written in files: the file, the line and the column.
-use Rattle.std.specs.Prelude.{ℕ, ◌+◌, Bool, if◌then◌else◌, List, [], ◌∷◌, ◌++◌, codes, Option, Some, None, option_and_then}
-use Rattle.std.specs.List.{flat_map}
+use Rattle.std.specs.Prelude.{ℕ, ◌+◌, if◌then◌else◌, List, [], ◌∷◌, ◌++◌, codes, Option, Some, None, option_and_then}
 use Rattle.mh_base.specs.declared.obj_ref.ObjRef.{ObjRef}
 use Rattle.mh_group.specs.declared.action_name.ActionName.{ActionName}
 use Rattle.mh_group.specs.declared.attribute.Attribute.{Attribute}
 use Rattle.mh_group.specs.declared.attribute.Attribute.TheVariants as attribute
+use Rattle.mh_places.specs.declared.place.Place.{Place}
 use Rattle.mh_places.specs.Places.{place_at, place_text}
 use Rattle.mh_text.specs.declared.mark.Mark.{Mark}
 use Rattle.mh_text.specs.Marks.{marks}
@@ -13,7 +13,7 @@ use Rattle.mh_trace.specs.declared.site.EffectKind.{EffectKind}
 use Rattle.mh_trace.specs.declared.site.EffectKind.TheVariants as kind
 use Rattle.mh_trace.specs.declared.site.Site.{Site}
 use Rattle.mh_trace.specs.Sites.{is_in}
-use Rattle.mh_trace.specs.Trace.{Directory}
+use Rattle.mh_trace.specs.Directory.{Directory, with_entry}
 
 -- the effect that a field is
 abbrev pub kind_of : Attribute → Option EffectKind
@@ -44,8 +44,12 @@ object_in group n = record { group = group; number = n }
 abbrev pub beginning_of : List ℕ → Site
 beginning_of group = record { object = object_in group 0; kind = kind.StartUp; number = 0 }
 
-unfoldable pub written : List ℕ → List ℕ → Mark → List ℕ
-written group bytes m = group ++ codes ":" ++ place_text (place_at bytes m.start)
+-- the file, the line and the column
+unfoldable pub written_at : List ℕ → Place → List ℕ
+written_at group p = group ++ codes ":" ++ place_text p
+
+abbrev pub written : List ℕ → List ℕ → Mark → List ℕ
+written group bytes m = written_at group (place_at bytes m.start)
 
 -- the place of an action that is marked, behind the action that was marked before
 abbrev pub site_of : List ℕ → Site → Mark → Option Site
@@ -55,18 +59,23 @@ abbrev pub last_of : Option Site → Site → Site
 last_of None s = s
 last_of (Some t) s = t
 
-abbrev pub entry_if : Option Site → List ℕ → Directory
-entry_if None text = []
-entry_if (Some t) text = (t, text) ∷ []
+abbrev pub with_mark : Option Site → List ℕ → Directory → Directory
+with_mark None text ws = ws
+with_mark (Some t) text ws = with_entry t text ws
 
-abbrev pub entries_from : List ℕ → List ℕ → Site → List Mark → Directory
-entries_from group bytes s [] = []
-entries_from group bytes s (m ∷ ms) =
-    entry_if (site_of group s m) (written group bytes m) ++ entries_from group bytes (last_of (site_of group s m) s) ms
+-- with the actions of these marks of a file, of which the last one before them stands there
+abbrev pub with_marks : List ℕ → List ℕ → Site → List Mark → Directory → Directory
+with_marks group bytes s [] ws = ws
+with_marks group bytes s (m ∷ ms) ws =
+    with_marks group bytes (last_of (site_of group s m) s) ms (with_mark (site_of group s m) (written group bytes m) ws)
 
-abbrev pub entries_of : Source → Directory
-entries_of f = entries_from f.0 f.1.items (beginning_of f.0) (marks f.1.items)
+abbrev pub with_file : Source → Directory → Directory
+with_file f ws = with_marks f.0 f.1.items (beginning_of f.0) (marks f.1.items) ws
+
+abbrev pub with_files : List Source → Directory → Directory
+with_files [] ws = ws
+with_files (f ∷ fs) ws = with_files fs (with_file f ws)
 
 -- WHERE THE ACTIONS OF THESE FILES ARE WRITTEN
 abbrev pub directory_of : List Source → Directory
-directory_of files = flat_map entries_of files
+directory_of files = with_files files []

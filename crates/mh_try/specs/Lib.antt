@@ -1,3 +1,4 @@
 pub mod Naming
 pub mod Directory
 pub mod Tried
+pub mod Standing

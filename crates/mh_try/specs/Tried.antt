@@ -15,7 +15,10 @@ use Rattle.mh_told.specs.declared.unplayable.Unplayable.{Unplayable}
 use Rattle.mh_told.specs.declared.unplayable.Unplayable.TheVariants as unplayable
 use Rattle.mh_told.specs.Reading.{◌>>=◌, Source, service_read, table_of}
 use Rattle.mh_trace.specs.Cover.{Covering, cover_text, covered_by, uncovered}
-use Rattle.mh_trace.specs.Trace.{Directory, Tracing, preset_all, presets_text, trace_text, traced_all, untraced}
+use Rattle.mh_trace.specs.Form.{telling_nothing}
+use Rattle.mh_trace.specs.declared.form.Telling.{Telling}
+use Rattle.mh_trace.specs.Directory.{Directory}
+use Rattle.mh_trace.specs.Trace.{Tracing, preset_all, presets_text, trace_text, traced_all, untraced}
 use Rattle.mh_try.specs.Directory.{directory_of}
 use Rattle.mh_try.specs.Naming.{narrowed}
 use Rattle.mh_try.specs.declared.tried.Chosen.{Chosen}
@@ -43,29 +46,33 @@ abbrev pub beginning : Directory → Service → ℕ → Tracing
 beginning ws v mjd = untraced ws (begun (record v { programs = [] }) mjd)
 
 -- what is told of the content files and the commands, and what was traced then
-abbrev pub told : List Content → List Command → Tracing → List ℕ × Tracing
-told fs cs p = (presets_text fs p ++ trace_text cs (preset_all fs p), traced_all cs (preset_all fs p))
+abbrev pub told : Telling → List Content → List Command → Tracing → List ℕ × Tracing
+told t fs cs p = (presets_text t fs p ++ trace_text t cs (preset_all fs p), traced_all cs (preset_all fs p))
 
--- a play with these tags; or the first thing that cannot be read
-unfoldable pub played_with : Chosen → List Source → List ℕ → Tags → Result (List ℕ × Tracing) Unplayable
-played_with c files script tags = do
+-- a play with these tags, and what is told of it; or the first thing that cannot be read
+unfoldable pub played_as : Telling → Chosen → List Source → List ℕ → Tags → Result (List ℕ × Tracing) Unplayable
+played_as t c files script tags = do
   service ← service_with c files tags
   found ← commands_of tags service.files script
-  Ok (told (contents tags service files) found (beginning (directory_of files) service c.mjd))
+  Ok (told t (contents tags service files) found (beginning (directory_of files) service c.mjd))
+
+-- one of which no step is told
+abbrev pub played_with : Chosen → List Source → List ℕ → Tags → Result (List ℕ × Tracing) Unplayable
+played_with c files script tags = played_as telling_nothing c files script tags
 
 -- what is told of it
-unfoldable pub told_with : Chosen → List Source → List ℕ → Tags → Result (List ℕ) Unplayable
-told_with c files script tags = do
-  found ← played_with c files script tags
+unfoldable pub told_with : Telling → Chosen → List Source → List ℕ → Tags → Result (List ℕ) Unplayable
+told_with t c files script tags = do
+  found ← played_as t c files script tags
   Ok found.0
 
 -- THE TRACE OF A SCRIPT, or its lines that name an object; or the first thing that cannot be read, of which the file of tags
 -- is the first
-unfoldable pub trace_read : Chosen → Option ObjRef → List Source → List ℕ → Result (List ℕ) Unplayable
-trace_read c only files script = do
+unfoldable pub trace_read : Telling → Chosen → Option ObjRef → List Source → List ℕ → Result (List ℕ) Unplayable
+trace_read t c only files script = do
   tags ← table_of (tags_of c)
-  text ← told_with c files script tags
-  Ok (narrowed only text)
+  text ← told_with t c files script tags
+  Ok (narrowed t.form only text)
 
 -- whether a fault comes while a script is played
 abbrev pub is_led : State → Bool

@@ -1,56 +1,58 @@
 //! Where the actions of effects are written in files.
 //!
 //! Promise: the directory is that of `specs/Directory`. What a slot does, and what is written in the binary notation, has no entry.
-ghost use Rattle.std.specs.Prelude.{◌≡◌, ◌++◌, ◌+◌, ◌-◌, ◌<◌, ◌≤◌, ◌^◌, IfOk, IfSome, OnOk};
+ghost use Rattle.std.specs.Prelude.{◌≡◌, ◌+◌, ◌-◌, ◌<◌, ◌≤◌, ◌^◌, IfOk, IfSome, OnOk};
 ghost use Rattle.mh_try.specs.Directory as spec;
 
 use mh_base::{GroupName, ObjRef};
 use mh_group::Attribute;
-use mh_places::{place_at, put_place};
+use mh_places::{Counter, Place, put_place};
 use mh_text::{Mark, marks};
 use mh_told::text::Text;
-use mh_trace::{EffectKind, Site};
+use mh_trace::{Directory, EffectKind, Site};
 use std::alloc::{AllocError, Global};
 
 /// Where the actions of these files are written.
 pub(crate) fn directory_of(
     alloc: Global,
     files: &[(GroupName, Vec<u8>)],
-) -> Result<Vec<(Site, Text)>, AllocError>
-    ensures { IfOk result (λ entries. entries.items ≡ spec.directory_of files.now) }
+) -> Result<Directory, AllocError>
+    ensures { IfOk result (λ directory. directory ≡ spec.directory_of files.now) }
 {
-    let mut entries = Vec::new(alloc);
+    let mut directory = Directory::new(alloc);
     for file in files {
-        push_file(alloc, &mut entries, file)?;
+        add_file(alloc, &mut directory, file)?;
     }
-    Ok(entries)
+    Ok(directory)
 }
 
-fn push_file(
+fn add_file(
     alloc: Global,
-    entries: &mut Vec<(Site, Text)>,
+    directory: &mut Directory,
     file: &(GroupName, Vec<u8>),
 ) -> Result<(), AllocError>
-    ensures { OnOk result (entries.new.items ≡ entries.old.items ++ spec.entries_of file.now) }
+    ensures { OnOk result (directory.new ≡ spec.with_file file.now directory.old) }
 {
     let (group, bytes) = (&file.0, file.1.as_slice());
     let marks = marks(alloc, bytes)?;
-    push_marks(alloc, entries, group, bytes, marks.as_slice())
+    add_marks(alloc, directory, group, bytes, marks.as_slice())
 }
 
-fn push_marks(
+fn add_marks(
     alloc: Global,
-    entries: &mut Vec<(Site, Text)>,
+    directory: &mut Directory,
     group: &GroupName,
     bytes: &[u8],
     marks: &[Mark],
 ) -> Result<(), AllocError>
-    ensures { OnOk result (entries.new.items ≡ entries.old.items ++ spec.entries_from group.now bytes.now (spec.beginning_of group.now) marks.now) }
+    ensures { OnOk result (directory.new ≡ spec.with_marks group.now bytes.now (spec.beginning_of group.now) marks.now directory.old) }
 {
     let mut last = beginning_of(group)?;
+    let mut places = Counter::of(bytes);
     for mark in marks {
         if let Some(site) = site_of(group, &last, mark)? {
-            entries.push((site.copied()?, written(alloc, group, bytes, mark)?))?;
+            let text = written(alloc, group, places.place_at(mark.start))?;
+            directory.add(site.copied()?, text)?;
             last = site;
         }
     }
@@ -128,14 +130,14 @@ fn kind_of(field: Attribute) -> Option<EffectKind>
     }
 }
 
-/// The file, the line and the column of an action that is marked.
-#[tactic(auto, unfolding(crate::specs::Directory::written))]
-fn written(alloc: Global, group: &GroupName, bytes: &[u8], mark: &Mark) -> Result<Text, AllocError>
-    ensures { IfOk result (λ text. text ≡ spec.written group.now bytes.now mark.now) }
+/// The file, the line and the column of what stands at this place.
+#[tactic(auto, unfolding(crate::specs::Directory::written_at))]
+fn written(alloc: Global, group: &GroupName, place: Place) -> Result<Text, AllocError>
+    ensures { IfOk result (λ text. text ≡ spec.written_at group.now place) }
 {
     let mut text = Text::new(alloc);
     text.put(group.as_bytes())?;
     text.put(b":")?;
-    put_place(&mut text, place_at(bytes, mark.start))?;
+    put_place(&mut text, place)?;
     Ok(text)
 }

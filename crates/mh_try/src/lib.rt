@@ -1,16 +1,22 @@
-//! Services that are tried: what the steps of a script do, what scripts cover, and which script leads to a fault.
+//! Services that are tried: what the steps of a script do, the state behind some of them, what scripts cover, and which script
+//! leads to a fault.
 //!
-//! Promise: a trace and a coverage are functions of the files, the scripts and what is chosen, and a script that is found leads
+//! Promise: a trace, a state and a coverage are functions of the files, the scripts and what is chosen, and a script that is found leads
 //! to a fault, as `specs/Tried` says. Where the bytes come from and go to is left to the program.
 #![tactic(auto)]
 
+mod covering;
 mod directory;
 mod finding;
 mod naming;
 mod opening;
+mod standing;
 pub mod tried;
 
+pub use covering::cover_of;
 pub use finding::fault_script;
 pub use mh_find::Within;
+pub use mh_trace::{Form, Telling};
 pub use opening::{engine_of, refusal_of};
-pub use tried::{Chosen, cover_of, trace_of};
+pub use standing::state_of;
+pub use tried::{Chosen, trace_of};

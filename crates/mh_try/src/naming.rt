@@ -1,62 +1,105 @@
 //! The lines of a trace that name an object.
 //!
 //! Promise: they are those in which its group and its number stand as words, one behind the other.
-ghost use Rattle.std.specs.Prelude.{◌≡◌, ◌++◌, IfOk, OnOk, drop, length, take};
+ghost use Rattle.std.specs.Prelude.{◌≡◌, ◌++◌, IfOk, OnOk, drop, length};
 ghost use Rattle.std.specs.Option.{option_copied};
-ghost use Rattle.std.specs.Str.{bytes_eq};
+ghost use Rattle.mh_trace.specs.declared.form.Form.TheVariants as form;
 ghost use Rattle.mh_try.specs.Naming as spec;
 
 use bstr::ByteSlice;
 use mh_base::ObjRef;
 use mh_told::text::Text;
-use mh_trace::put_ref;
+use mh_trace::json::put_escaped;
+use mh_trace::{Form, put_ref, shown_ref};
 use std::alloc::{AllocError, Global};
 
 /// The lines of the text that name this object; all of them where none is asked for.
-pub(crate) fn narrowed(alloc: Global, only: Option<&ObjRef>, text: Text) -> Result<Text, AllocError>
-    ensures { IfOk result (λ lines. lines ≡ spec.narrowed (option_copied only.entry) text) }
+pub(crate) fn narrowed(
+    alloc: Global,
+    form: Form,
+    only: Option<&ObjRef>,
+    text: Text,
+) -> Result<Text, AllocError>
+    ensures { IfOk result (λ lines. lines ≡ spec.narrowed form (option_copied only.entry) text) }
 {
     match only {
         None => Ok(text),
-        Some(object) => lines_naming(alloc, object, &text),
+        Some(object) => lines_naming(alloc, form, object, &text),
     }
 }
 
-fn lines_naming(alloc: Global, object: &ObjRef, text: &Text) -> Result<Text, AllocError>
-    ensures { IfOk result (λ lines. lines ≡ spec.lines_naming (spec.words_for object.now) text.now) }
+fn lines_naming(alloc: Global, form: Form, object: &ObjRef, text: &Text) -> Result<Text, AllocError>
+    ensures { IfOk result (λ lines. lines
+        ≡ spec.lines_naming (spec.words_for form 32 object.now) (spec.words_for form 34 object.now) text.now) }
 {
-    let words = words_for(alloc, object)?;
+    let words = words_for(alloc, form, 32, object)?;
+    let others = words_for(alloc, form, 34, object)?;
     let mut lines = Text::new(alloc);
-    put_named(&mut lines, words.as_slice(), text.as_slice())?;
+    put_named(
+        &mut lines,
+        words.as_slice(),
+        others.as_slice(),
+        text.as_slice(),
+    )?;
     Ok(lines)
 }
 
-/// Puts the lines of these bytes in which the words stand.
-fn put_named(lines: &mut Text, words: &[u8], bytes: &[u8]) -> Result<(), AllocError>
-    ensures { OnOk result (lines.new ≡ lines.old ++ spec.lines_naming words.now bytes.now) }
+/// Puts the lines of these bytes in which these words stand, or those.
+fn put_named(lines: &mut Text, words: &[u8], others: &[u8], bytes: &[u8]) -> Result<(), AllocError>
+    ensures { OnOk result (lines.new ≡ lines.old ++ spec.lines_naming words.now others.now bytes.now) }
 {
     for line in bytes.lines_with_terminator() {
-        put_if_named(lines, words, line)?;
+        put_if_named(lines, words, others, line)?;
     }
     Ok(())
 }
 
-fn put_if_named(lines: &mut Text, words: &[u8], line: &[u8]) -> Result<(), AllocError>
-    ensures { OnOk result (lines.new ≡ lines.old ++ spec.line_if_named words.now line.now) }
+fn put_if_named(
+    lines: &mut Text,
+    words: &[u8],
+    others: &[u8],
+    line: &[u8],
+) -> Result<(), AllocError>
+    ensures { OnOk result (lines.new ≡ lines.old ++ spec.line_if_named words.now others.now line.now) }
 {
-    if names(words, line) {
+    if names_one(words, others, line) {
         return lines.put(line);
     }
     Ok(())
 }
 
+fn names_one(words: &[u8], others: &[u8], line: &[u8]) -> bool
+    ensures { result ≡ spec.names_one words.now others.now line.now }
+{
+    names(words, line) || names(others, line)
+}
+
 /// How a line names an object.
-fn words_for(alloc: Global, object: &ObjRef) -> Result<Text, AllocError>
-    ensures { IfOk result (λ words. words ≡ spec.words_for object.now) }
+fn words_for(alloc: Global, form: Form, mark: u8, object: &ObjRef) -> Result<Text, AllocError>
+    ensures { IfOk result (λ words. words ≡ spec.words_for form mark object.now) }
+{
+    match form {
+        Form::Text => plain_words(alloc, object),
+        Form::Json => escaped_words(alloc, mark, object),
+    }
+}
+
+fn plain_words(alloc: Global, object: &ObjRef) -> Result<Text, AllocError>
+    ensures { IfOk result (λ words. words ≡ spec.words_for form.Text 32 object.now) }
 {
     let mut words = Text::new(alloc);
-    words.put(b" ")?;
+    words.put_byte(32)?;
     put_ref(&mut words, object)?;
+    Ok(words)
+}
+
+fn escaped_words(alloc: Global, mark: u8, object: &ObjRef) -> Result<Text, AllocError>
+    ensures { IfOk result (λ words. words ≡ spec.words_for form.Json mark object.now) }
+{
+    let shown = shown_ref(alloc, object)?;
+    let mut words = Text::new(alloc);
+    words.put_byte(mark)?;
+    put_escaped(&mut words, shown.as_slice())?;
     Ok(words)
 }
 

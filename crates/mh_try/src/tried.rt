@@ -1,10 +1,9 @@
 //! Scripts that are played on a service, and what is told of them.
 //!
 //! A service is played whatever the verifier would say of it, and with the built-in programs alone.
-ghost use Rattle.std.specs.Prelude.{◌≡◌, IfOk, map};
+ghost use Rattle.std.specs.Prelude.{◌≡◌, IfOk};
 ghost use Rattle.std.specs.Option.{option_copied, option_map};
 ghost use Rattle.mh_told.specs.Reading.{Gives};
-ghost use Rattle.mh_trace.specs.Cover.{cover_text, covered_by};
 ghost use Rattle.mh_try.specs.Directory.{directory_of as written_in};
 ghost use Rattle.mh_try.specs.Tried as spec;
 
@@ -20,7 +19,7 @@ use mh_told::reading::read_service;
 use mh_told::tags::table_of;
 use mh_told::text::Text;
 use mh_told::unplayable::Unplayable;
-use mh_trace::{Covered, Site, Tracer};
+use mh_trace::{Directory, Telling, Tracer};
 use std::alloc::{AllocError, Global};
 
 /// What is chosen of a service and of a play.
@@ -43,21 +42,23 @@ pub(crate) struct Play {
     pub(crate) tracer: Tracer,
 }
 
-/// The trace of a script that is played on the service of these files; with `only` the lines of it that name this object.
+/// The trace of a script that is played on the service of these files, with the steps and in the form that are asked for;
+/// with `only` the lines of it that name this object.
 #[tactic(auto, unfolding(crate::specs::Tried::trace_read))]
 pub fn trace_of(
     alloc: Global,
     files: &[(GroupName, Vec<u8>)],
     script: &[u8],
     chosen: &Chosen,
+    telling: &Telling,
     only: Option<&ObjRef>,
 ) -> Result<Text, Unplayable>
     ensures { Gives (λ text. text) result
-        (spec.trace_read chosen.now (option_copied only.entry) files.now script.now) }
+        (spec.trace_read telling.now chosen.now (option_copied only.entry) files.now script.now) }
 {
     let tags = table_of(alloc, bytes_of(&chosen.tags))?;
-    let text = told_of(alloc, &tags, files, script, chosen)?;
-    let lines = narrowed(alloc, only, text)?;
+    let text = told_of(alloc, &tags, files, script, chosen, telling)?;
+    let lines = narrowed(alloc, telling.form, only, text)?;
     Ok(lines)
 }
 
@@ -69,10 +70,12 @@ fn told_of(
     files: &[(GroupName, Vec<u8>)],
     script: &[u8],
     chosen: &Chosen,
+    telling: &Telling,
 ) -> Result<Text, Unplayable>
-    ensures { Gives (λ text. text) result (spec.told_with chosen.now files.now script.now tags.now) }
+    ensures { Gives (λ text. text) result
+        (spec.told_with telling.now chosen.now files.now script.now tags.now) }
 {
-    let played = played(alloc, tags, files, script, chosen)?;
+    let played = played_as(alloc, tags, files, script, chosen, telling)?;
     Ok(text_in(played))
 }
 
@@ -84,39 +87,6 @@ fn text_in(played: Play) -> Text
     text
 }
 
-/// What scripts cover of the service of these files; `tap` as test harnesses read it.
-#[tactic(auto, unfolding(crate::specs::Tried::cover_read))]
-pub fn cover_of(
-    alloc: Global,
-    files: &[(GroupName, Vec<u8>)],
-    scripts: &[Vec<u8>],
-    chosen: &Chosen,
-    tap: bool,
-) -> Result<Text, Unplayable>
-    ensures { Gives (λ text. text) result
-        (spec.cover_read tap chosen.now files.now (map (λ script. script.items) scripts.now)) }
-{
-    let tags = table_of(alloc, bytes_of(&chosen.tags))?;
-    let covered = cover_all(alloc, &tags, files, scripts, chosen, Covered::new(alloc))?;
-    let service = service_of(alloc, &tags, files, chosen)?;
-    let text = cover_text(alloc, files, &service, &covered, tap)?;
-    Ok(text)
-}
-
-/// The lines on what was covered of the service of these files.
-fn cover_text(
-    alloc: Global,
-    files: &[(GroupName, Vec<u8>)],
-    service: &Service,
-    covered: &Covered,
-    tap: bool,
-) -> Result<Text, AllocError>
-    ensures { IfOk result (λ text. text ≡ cover_text tap (written_in files.now) covered.now service.now) }
-{
-    let directory = directory_of(alloc, files)?;
-    covered.text(alloc, service, directory.as_slice(), tap)
-}
-
 /// The bytes that an option holds, lent.
 pub(crate) fn bytes_of(bytes: &Option<Vec<u8>>) -> Option<&[u8]>
     ensures { option_copied result ≡ option_map (λ held. held.items) bytes.now }
@@ -125,59 +95,6 @@ pub(crate) fn bytes_of(bytes: &Option<Vec<u8>>) -> Option<&[u8]>
         Some(bytes) => Some(bytes.as_slice()),
         None => None,
     }
-}
-
-/// What was covered before, with what each script does and enters.
-fn cover_all(
-    alloc: Global,
-    tags: &TagTable,
-    files: &[(GroupName, Vec<u8>)],
-    scripts: &[Vec<u8>],
-    chosen: &Chosen,
-    before: Covered,
-) -> Result<Covered, Unplayable>
-    ensures { let texts = map (λ script. script.items) scripts.now in
-        Gives (λ covered. covered) result (spec.cover_all chosen.now files.now tags.now texts before) }
-{
-    let mut covered = before;
-    for script in scripts {
-        covered = cover_one(alloc, tags, files, script.as_slice(), chosen, covered)?;
-    }
-    Ok(covered)
-}
-
-#[tactic(auto, unfolding(crate::specs::Tried::cover_one))]
-fn cover_one(
-    alloc: Global,
-    tags: &TagTable,
-    files: &[(GroupName, Vec<u8>)],
-    script: &[u8],
-    chosen: &Chosen,
-    before: Covered,
-) -> Result<Covered, Unplayable>
-    ensures { Gives (λ covered. covered) result (spec.cover_one chosen.now files.now tags.now script.now before) }
-{
-    let played = played(alloc, tags, files, script, chosen)?;
-    let covered = covered_in(played, before)?;
-    Ok(covered)
-}
-
-/// What was covered before, with what this play has done and entered.
-fn covered_in(played: Play, before: Covered) -> Result<Covered, AllocError>
-    ensures { IfOk result (λ covered. covered ≡ covered_by played.tracer before) }
-{
-    let covered = with_trace(before, &played.tracer);
-    drop(played);
-    covered
-}
-
-/// What was covered before, with what this trace has done and entered.
-fn with_trace(before: Covered, tracer: &Tracer) -> Result<Covered, AllocError>
-    ensures { IfOk result (λ covered. covered ≡ covered_by tracer.now before) }
-{
-    let mut covered = before;
-    covered.add(tracer)?;
-    Ok(covered)
 }
 
 /// The service of the files, with what is chosen.
@@ -193,8 +110,7 @@ pub(crate) fn service_of(
     read_service(alloc, tags, files, chosen.start.as_slice(), late)
 }
 
-/// Plays a script, and tells what it does.
-#[tactic(auto, unfolding(crate::specs::Tried::played_with))]
+/// Plays a script, and tells no step of it.
 pub(crate) fn played(
     alloc: Global,
     tags: &TagTable,
@@ -205,23 +121,64 @@ pub(crate) fn played(
     ensures { Gives (λ played. (played.text, played.tracer)) result
         (spec.played_with chosen.now files.now script.now tags.now) }
 {
+    played_as(alloc, tags, files, script, chosen, &Telling::nothing())
+}
+
+/// Plays a script, and tells what it does.
+#[tactic(auto, unfolding(crate::specs::Tried::played_as))]
+fn played_as(
+    alloc: Global,
+    tags: &TagTable,
+    files: &[(GroupName, Vec<u8>)],
+    script: &[u8],
+    chosen: &Chosen,
+    telling: &Telling,
+) -> Result<Play, Unplayable>
+    ensures { Gives (λ played. (played.text, played.tracer)) result
+        (spec.played_as telling.now chosen.now files.now script.now tags.now) }
+{
     let service = service_of(alloc, tags, files, chosen)?;
     let commands = read_commands(alloc, tags, &service, script)?;
     let contents = read_contents(alloc, tags, &service, files)?;
+    let played = played_on(
+        alloc,
+        files,
+        service,
+        chosen.mjd,
+        telling,
+        contents.as_slice(),
+        commands.as_slice(),
+    )?;
+    Ok(played)
+}
+
+/// Plays these commands on the service of the files, with these content files there, and tells what they do.
+fn played_on(
+    alloc: Global,
+    files: &[(GroupName, Vec<u8>)],
+    service: Service,
+    mjd: u32,
+    telling: &Telling,
+    contents: &[File],
+    commands: &[Command],
+) -> Result<Play, AllocError>
+    ensures { IfOk result (λ played. (played.text, played.tracer)
+        ≡ spec.told telling.now contents.now commands.now (spec.beginning (written_in files.now) service mjd)) }
+{
     let directory = directory_of(alloc, files)?;
-    let tracer = begun(alloc, directory, service, chosen.mjd)?;
-    let told = told(alloc, tracer, contents.as_slice(), commands.as_slice())?;
+    let tracer = begun(alloc, directory, service, mjd)?;
+    let told = told(alloc, telling, tracer, contents, commands)?;
     Ok(told)
 }
 
 /// What a play begins with.
-fn begun(
+pub(crate) fn begun(
     alloc: Global,
-    directory: Vec<(Site, Text)>,
+    directory: Directory,
     service: Service,
     mjd: u32,
 ) -> Result<Tracer, AllocError>
-    ensures { IfOk result (λ tracer. tracer ≡ spec.beginning directory.items service mjd) }
+    ensures { IfOk result (λ tracer. tracer ≡ spec.beginning directory service mjd) }
 {
     match Machine::new(alloc, service, mjd) {
         Ok(machine) => Ok(Tracer::new(alloc, machine, directory)),
@@ -232,14 +189,15 @@ fn begun(
 /// Puts the content files there, does the commands, and tells both.
 fn told(
     alloc: Global,
+    telling: &Telling,
     tracer: Tracer,
     contents: &[File],
     commands: &[Command],
 ) -> Result<Play, AllocError>
-    ensures { IfOk result (λ played. (played.text, played.tracer) ≡ spec.told contents.now commands.now tracer) }
+    ensures { IfOk result (λ played. (played.text, played.tracer) ≡ spec.told telling.now contents.now commands.now tracer) }
 {
     let mut tracer = tracer;
-    let text = tell(alloc, &mut tracer, contents, commands);
+    let text = tell(alloc, telling, &mut tracer, contents, commands);
     let (text, tracer) = both(text, Ok(tracer))?;
     Ok(Play { text, tracer })
 }
@@ -247,21 +205,22 @@ fn told(
 /// The same with a tracer that is lent, so that no machine is dropped where memory is refused.
 fn tell(
     alloc: Global,
+    telling: &Telling,
     tracer: &mut Tracer,
     contents: &[File],
     commands: &[Command],
 ) -> Result<Text, AllocError>
-    ensures { IfOk result (λ text. (text, tracer.new) ≡ spec.told contents.now commands.now tracer.old) }
+    ensures { IfOk result (λ text. (text, tracer.new) ≡ spec.told telling.now contents.now commands.now tracer.old) }
 {
     let mut text = Text::new(alloc);
-    tracer.preset_all(contents, &mut text)?;
-    tracer.play(commands, &mut text)?;
+    tracer.preset_all(telling, contents, &mut text)?;
+    tracer.play(telling, commands, &mut text)?;
     Ok(text)
 }
 
 /// The commands of a script that is played on this service.
 #[tactic(auto, unfolding(crate::specs::Tried::commands_of))]
-fn read_commands(
+pub(crate) fn read_commands(
     alloc: Global,
     tags: &TagTable,
     service: &Service,

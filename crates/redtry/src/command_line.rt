@@ -1,11 +1,12 @@
 //! The words of the command line: what the program is asked to do.
 //!
 //! What the words mean, which are refused and why are `clap`'s rules over `program`.
-use crate::program::{MOST_KEYS, MOST_READS, MOST_STEPS, program};
+use crate::program::{MOST_KEYS, MOST_READS, MOST_STEPS, MOST_TOLD, program};
 use clap::ArgMatches;
 use mh_base::{GroupName, NameError, ObjRef};
 use mh_command::values::{day_of, file_of, is_set, number_of, text_of};
 use mh_command::{NoTask, Source, matches_of, source_of};
+use mh_try::{Form, Telling};
 use std::alloc::{AllocError, Global};
 
 /// What is asked for, and of which service.
@@ -28,6 +29,16 @@ pub enum Asked<'a> {
         strict: bool,
         /// The object whose lines alone are told.
         only: Option<ObjRef>,
+        /// Which steps are told, and how.
+        telling: Telling,
+    },
+    /// The state behind some steps of a script.
+    State {
+        script: &'a str,
+        /// Behind how many steps.
+        at: u64,
+        /// The object that alone is told.
+        object: Option<ObjRef>,
     },
     /// What scripts do of a service.
     Cover {
@@ -55,8 +66,10 @@ pub enum Asked<'a> {
 pub enum LineError {
     /// The words ask for no task.
     NoTask(NoTask),
-    /// What `--only` names is no object.
+    /// What `--only` or `--object` names is no object.
     NoObject,
+    /// `--format` names no form.
+    NoForm,
 }
 
 impl From<NoTask> for LineError {
@@ -109,7 +122,13 @@ fn asked_under<'a>(
         "trace" => Ok(Asked::Trace {
             script: text_of(given, "script"),
             strict: is_set(given, "strict"),
-            only: object_in(alloc, given)?,
+            only: object_in(alloc, given, "only")?,
+            telling: telling_in(given)?,
+        }),
+        "state" => Ok(Asked::State {
+            script: text_of(given, "script"),
+            at: number_of(given, "at", MOST_TOLD),
+            object: object_in(alloc, given, "object")?,
         }),
         "cover" => Ok(Asked::Cover {
             scripts: texts_of(alloc, given, "SCRIPT")?,
@@ -126,12 +145,33 @@ fn asked_under<'a>(
     }
 }
 
-/// The object that `--only` names, if it is given.
-fn object_in(alloc: Global, given: &ArgMatches<'_>) -> Result<Option<ObjRef>, LineError> {
-    match given.get_strs("only") {
+/// The object that this option names, if it is given.
+fn object_in(
+    alloc: Global,
+    given: &ArgMatches<'_>,
+    option: &str,
+) -> Result<Option<ObjRef>, LineError> {
+    match given.get_strs(option) {
         None => Ok(None),
         Some([group, number]) => Ok(Some(object_of(alloc, *group, *number)?)),
         Some(_) => Err(LineError::NoObject),
+    }
+}
+
+/// Which steps are told, and how.
+fn telling_in(given: &ArgMatches<'_>) -> Result<Telling, LineError> {
+    Ok(Telling {
+        form: form_of(text_of(given, "format"))?,
+        from: number_of(given, "from", MOST_TOLD),
+        until: number_of(given, "until", MOST_TOLD),
+    })
+}
+
+fn form_of(name: &str) -> Result<Form, LineError> {
+    match name {
+        "text" => Ok(Form::Text),
+        "json" => Ok(Form::Json),
+        _ => Err(LineError::NoForm),
     }
 }
 

@@ -8,7 +8,9 @@ use mh_exit::Exit;
 use mh_folder::read_input;
 use mh_live::Live;
 use mh_told::text::Text;
-use mh_try::{Chosen, Within, cover_of, engine_of, fault_script, refusal_of, trace_of};
+use mh_try::{
+    Chosen, Telling, Within, cover_of, engine_of, fault_script, refusal_of, state_of, trace_of,
+};
 use std::io;
 use std::io::Write;
 use std::rt::Runtime;
@@ -62,7 +64,9 @@ fn tried<R: Runtime + AllocGlobal>(
             script,
             strict,
             only,
-        } => traced(rt, given, *script, *strict, only.as_ref()),
+            telling,
+        } => traced(rt, given, *script, *strict, only.as_ref(), telling),
+        Asked::State { script, at, object } => stated(rt, given, *script, *at, object.as_ref()),
         Asked::Cover { scripts, tap } => covered(rt, given, scripts.as_slice(), *tap),
         Asked::Find { keys, steps } => found(rt, given, *keys, *steps),
         Asked::Live { record, reads } => lived(rt, given, *record, *reads),
@@ -75,6 +79,7 @@ fn traced<R: Runtime + AllocGlobal>(
     script: &str,
     strict: bool,
     only: Option<&ObjRef>,
+    telling: &Telling,
 ) -> Result<Exit, Failure> {
     let script = read_input(rt, script)?;
     if strict && is_refused(rt, given)? {
@@ -85,6 +90,7 @@ fn traced<R: Runtime + AllocGlobal>(
         given.files,
         script.as_slice(),
         &given.chosen,
+        telling,
         only,
     )?;
     written(rt, &text)
@@ -99,6 +105,25 @@ fn is_refused<R: Runtime + AllocGlobal>(rt: &R, given: &Given<'_>) -> Result<boo
         }
         None => Ok(false),
     }
+}
+
+fn stated<R: Runtime + AllocGlobal>(
+    rt: &R,
+    given: &Given<'_>,
+    script: &str,
+    steps: u64,
+    object: Option<&ObjRef>,
+) -> Result<Exit, Failure> {
+    let script = read_input(rt, script)?;
+    let text = state_of(
+        rt.alloc(),
+        given.files,
+        script.as_slice(),
+        &given.chosen,
+        steps,
+        object,
+    )?;
+    written(rt, &text)
 }
 
 fn covered<R: Runtime + AllocGlobal>(

@@ -33,8 +33,12 @@ fn run<R: Runtime + AllocGlobal>(rt: &R) -> io::Result<Exit> {
         Err(LineError::NoTask(why)) => tell_no_task(rt, &why),
         Err(LineError::NoObject) => {
             eprintln!(rt;
-                "redtry: --only wants a group and the number of an object, as in --only s 10"
+                "redtry: --only and --object want a group and the number of an object, as in --only s 10"
             )?;
+            Ok(Exit::Unreadable)
+        }
+        Err(LineError::NoForm) => {
+            eprintln!(rt; "redtry: --format wants text or json")?;
             Ok(Exit::Unreadable)
         }
     }

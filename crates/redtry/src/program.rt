@@ -26,6 +26,9 @@ pub const MOST_STEPS: u64 = 1_000_000;
 
 pub const MOST_READS: u64 = 10_000_000;
 
+/// The last step that can be told.
+pub const MOST_TOLD: u64 = 1_000_000_000_000;
+
 /// What is told behind the help of the program.
 const STATUSES: &str = "Exit status:
   0  what was asked for is done; of `find` a script was found
@@ -50,7 +53,12 @@ Example:
 
 const TRACE: &str = "Examples:
   redtry trace examples/first/service --script examples/first/script
-  redtry trace examples/first/service --script examples/first/script --only s 10";
+  redtry trace examples/first/service --script examples/first/script --only s 10
+  redtry trace examples/first/service --script examples/first/script --from 12 --until 13 --format json";
+
+const STATE: &str = "Examples:
+  redtry state examples/first/service --script examples/first/script --at 12
+  redtry state examples/first/service --script examples/first/script --object s 10";
 
 const COVER: &str = "Example:
   redtry cover examples/first/service examples/first/script";
@@ -64,6 +72,7 @@ Example:
 /// The program with all its subcommands.
 pub fn program<'a>(alloc: Global) -> Result<Command<'a>, AllocError> {
     with_plays(alloc)?
+        .subcommand(state(alloc)?)?
         .subcommand(cover(alloc)?)?
         .subcommand(find(alloc)?)
 }
@@ -88,6 +97,13 @@ fn live<'a>(alloc: Global) -> Result<Command<'a>, AllocError> {
 }
 
 fn trace<'a>(alloc: Global) -> Result<Command<'a>, AllocError> {
+    traced(alloc)?
+        .arg(from(alloc))?
+        .arg(until(alloc))?
+        .arg(format(alloc))
+}
+
+fn traced<'a>(alloc: Global) -> Result<Command<'a>, AllocError> {
     of_service(
         alloc,
         "trace",
@@ -97,6 +113,18 @@ fn trace<'a>(alloc: Global) -> Result<Command<'a>, AllocError> {
     .arg(script_to_play(alloc, SCRIPT))?
     .arg(strict(alloc))?
     .arg(only(alloc))
+}
+
+fn state<'a>(alloc: Global) -> Result<Command<'a>, AllocError> {
+    of_service(
+        alloc,
+        "state",
+        "Tells the state behind some steps of a script",
+        STATE,
+    )?
+    .arg(script_to_play(alloc, SCRIPT))?
+    .arg(at(alloc))?
+    .arg(object(alloc))
 }
 
 fn cover<'a>(alloc: Global) -> Result<Command<'a>, AllocError> {
@@ -156,6 +184,30 @@ fn only<'a>(alloc: Global) -> Arg<'a> {
     named(alloc, "only", "GROUP NUMBER")
         .num_args(2)
         .help("Tells the lines alone that name this object")
+}
+
+fn from<'a>(alloc: Global) -> Arg<'a> {
+    number(alloc, "from", "1", MOST_TOLD).help("The first step that is told")
+}
+
+fn until<'a>(alloc: Global) -> Arg<'a> {
+    number(alloc, "until", "1000000000000", MOST_TOLD).help("The last step that is told")
+}
+
+fn format<'a>(alloc: Global) -> Arg<'a> {
+    named(alloc, "format", "FORM")
+        .default_value("text")
+        .help("How steps are told: text, or json, an object a line")
+}
+
+fn at<'a>(alloc: Global) -> Arg<'a> {
+    number(alloc, "at", "1000000000000", MOST_TOLD).help("Behind how many steps of the script")
+}
+
+fn object<'a>(alloc: Global) -> Arg<'a> {
+    named(alloc, "object", "GROUP NUMBER")
+        .num_args(2)
+        .help("Tells this object alone, with its attributes as they are")
 }
 
 fn scripts<'a>(alloc: Global) -> Arg<'a> {

@@ -11,4 +11,4 @@ returns c =
     let n = e.source.number in
     c.in_ok-put_ears_at.ensures
     ∙ ap (λ (ls : List ℕ). c.args.text.now ++ ls)
-    (all_by_places (ear e) n (all c.args.objects.now) c.places.result.now (ear_none e) (c.places.ensures ∙ c.requires n))
+    (all_by_places (ear c.args.form e) n (all c.args.objects.now) c.places.result.now (ear_none c.args.form e) (c.places.ensures ∙ c.requires n))

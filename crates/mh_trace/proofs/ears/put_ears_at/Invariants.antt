@@ -7,5 +7,5 @@ use Rattle.mh_trace.proofs.ears.put_ears_at.Given as goal
 
 abbrev pub invariant-loop-place : goal.invariant-loop-place
 invariant-loop-place l =
-    l.text ++ flat_map (at_place (ear l.event) (all l.objects)) (drop l.place-index l.places)
-    ≡ l.initial.text ++ flat_map (at_place (ear l.event) (all l.objects)) l.places
+    l.text ++ flat_map (at_place (ear l.form l.event) (all l.objects)) (drop l.place-index l.places)
+    ≡ l.initial.text ++ flat_map (at_place (ear l.form l.event) (all l.objects)) l.places

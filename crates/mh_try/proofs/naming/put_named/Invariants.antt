@@ -5,4 +5,4 @@ use Rattle.mh_try.proofs.naming.put_named.Given as goal
 
 abbrev pub invariant-loop-line : goal.invariant-loop-line
 invariant-loop-line l =
-    l.lines ++ flat_map (line_if_named l.fn.words) l.line-iterator ≡ l.initial.lines ++ lines_naming l.fn.words l.fn.bytes
+    l.lines ++ flat_map (line_if_named l.fn.words l.fn.others) l.line-iterator ≡ l.initial.lines ++ lines_naming l.fn.words l.fn.others l.fn.bytes

@@ -4,5 +4,5 @@ use Rattle.mh_trace.proofs.tracer.Tracer.play.Given as goal
 
 abbrev pub invariant-loop-command : goal.invariant-loop-command
 invariant-loop-command l =
-    (l.text ++ trace_text (drop l.command-index l.commands) l.self ≡ l.initial.text ++ trace_text l.commands l.initial.self)
+    (l.text ++ trace_text l.telling (drop l.command-index l.commands) l.self ≡ l.initial.text ++ trace_text l.telling l.commands l.initial.self)
     × (traced_all (drop l.command-index l.commands) l.self ≡ traced_all l.commands l.initial.self)

@@ -8,7 +8,7 @@ use Rattle.mh_trace.proofs.tracer.Tracer.steps.Given as goal
 
 abbrev pub invariant-loop-self : goal.invariant-loop-self
 invariant-loop-self l =
-    (l.text ++ steps_text l.left l.self ≡ l.initial.text ++ steps_text l.most l.initial.self)
+    (l.text ++ steps_text l.telling l.left l.self ≡ l.initial.text ++ steps_text l.telling l.most l.initial.self)
     × (steps l.left l.self ≡ steps l.most l.initial.self)
     × IfSome l.known (λ index. IsIndexOf index.entries (parts (all l.self.state.objects)))
 

@@ -1,6 +1,0 @@
-use Rattle.std.proofs.Common.{rules}
-use Rattle.mh_trace.proofs.PlaceLemmas.{heard_so}
-use Rattle.mh_trace.proofs.hearing.hears.Goals as goal
-
-pub returns : goal.returns
-returns c = search (rules, heard_so)
