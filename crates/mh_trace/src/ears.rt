@@ -13,7 +13,7 @@ ghost use Rattle.mh_model.specs.State.{all};
 ghost use Rattle.mh_trace.specs.Ears as spec;
 ghost use Rattle.mh_trace.specs.Listening.{IsIndexOf, at_place};
 
-use crate::ears::hearing::{hears_data, waits, wanted};
+use crate::ears::hearing::{waits, wanted};
 use crate::ears::json::{put_heard_json, put_stopped_json, put_unlike_json};
 use crate::ears::listening::{Listening, places};
 use crate::ears::text::{put_heard, put_stopped, put_unlike};
@@ -21,6 +21,7 @@ use crate::form::Form;
 use crate::words::{put_integer, put_ref};
 use mh_base::{GroupName, ObjRef, Value};
 use mh_machine::{Machine, engine_event, key_event, register_of};
+use mh_model::event::hears_data;
 use mh_model::parts::group_ref;
 use mh_model::{Event, Input, Item, Key, Object, Waiting};
 use mh_store::Objects;

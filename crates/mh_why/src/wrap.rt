@@ -91,7 +91,7 @@ fn ends_line(column: usize, character: u32, behind: &[u32]) -> bool
 }
 
 /// How many characters stand before the first space.
-fn word_length(characters: &[u32]) -> usize
+pub(crate) fn word_length(characters: &[u32]) -> usize
     ensures exact { result ≡ prefix_len is_in_word characters.now }
     ensures within { result ≤ length characters.now }
 {

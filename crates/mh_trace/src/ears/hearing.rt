@@ -9,8 +9,8 @@ ghost use Rattle.mh_trace.specs.Ears as spec;
 
 use mh_base::{EventType, ObjRef, Value};
 use mh_group::{Attribute, Class};
+use mh_model::event::hears_data;
 use mh_model::held::{as_event, as_value};
-use mh_model::kinds::same_value;
 use mh_model::parts::same_ref;
 use mh_model::{Event, Object, Properties};
 
@@ -66,16 +66,6 @@ fn hears_type(written: &Properties, kind: EventType) -> bool
     match as_event(written.get(Attribute::EventType)) {
         Some(heard) => heard.number() == kind.number(),
         None => false,
-    }
-}
-
-pub fn hears_data(heard: Option<&Value>, given: &Option<Value>) -> bool
-    ensures { result ≡ model.hears_data (option_copied heard.entry) given.now }
-{
-    match (heard, given) {
-        (None, _) => true,
-        (Some(heard), Some(given)) => same_value(heard, given),
-        (Some(_), None) => false,
     }
 }
 

@@ -9,6 +9,7 @@ ghost use Rattle.mh_why.specs.Lines.{first_by};
 ghost use Rattle.mh_why.specs.Places.{back_mark, caret_line, cut_at, front_mark, last_space, mark_width, shown_line, size_shown, window, word_behind};
 
 use crate::place::put_repeated;
+use crate::wrap::word_length;
 use mh_terminal::{put_character, put_plain};
 use mh_told::text::Text;
 use std::alloc::{AllocError, Global};
@@ -52,16 +53,6 @@ fn word_behind(first: usize, length: usize) -> usize
     } else {
         first
     }
-}
-
-/// How many characters stand before the first space.
-fn word_length(characters: &[u32]) -> usize
-    ensures { result ≡ prefix_len is_in_word characters.now }
-{
-    characters
-        .iter()
-        .take_while(|character| **character != SPACE)
-        .count()
 }
 
 /// How many of these characters are shown, where what is meant stands behind so many of them.
