@@ -4,6 +4,7 @@
 ghost use Rattle.std.specs.Prelude.{◌≡◌, ◌∷◌, [], IfOk};
 ghost use Rattle.std.specs.Option.{option_copied};
 ghost use Rattle.mh_told.specs.Reading.{service_tagged};
+ghost use Rattle.mh_told.specs.declared.unplayable.Unplayable.TheVariants.{NoMemory as unplayable_memory};
 ghost use Rattle.mh_verify.specs.declared.refusal.RefusalKind.TheVariants.{NoMemory};
 ghost use Rattle.mh_judged.specs.Judged.{IsListOf, IsServiceList};
 ghost use Rattle.mh_judged.specs.Refusals.{refusal_finding as refusal_finding_lem};
@@ -40,12 +41,33 @@ pub fn findings_on(
 {
     match read_tagged_service(alloc, tags, files, start, late) {
         Ok(service) => verified(alloc, service, folder, files, start, asked),
-        Err(why) => match why {
-            Unplayable::NoMemory => Err(AllocError),
-            _ => unread(alloc, given, folder, files, &why),
-        },
+        Err(why) => {
+            let found = unplayable(alloc, given, folder, files, &why);
+            drop(why);
+            found
+        }
     }
 }
+
+/// What is found of files that make no service.
+fn unplayable(
+    alloc: Global,
+    given: &[u8],
+    folder: &[u8],
+    files: &[(GroupName, Vec<u8>)],
+    why: &Unplayable,
+) -> Result<Vec<Finding>, AllocError>
+    ensures { IfOk result (λ found.
+        (found.items ≡ unread_findings given.now folder.now files.now why.now)
+        × (why.now ≡ unplayable_memory → ⊥)) }
+{
+    match why {
+        Unplayable::NoMemory => Err(AllocError),
+        _ => unread(alloc, given, folder, files, why),
+    }
+}
+
+/// The same, where it is not for want of memory.
 
 fn unread(
     alloc: Global,

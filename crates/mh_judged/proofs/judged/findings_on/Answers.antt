@@ -13,8 +13,8 @@ returns-in-Ok c =
     (λ found. IsListOf c.args.asked c.args.given.now c.args.folder.now c.args.files.now c.args.start.now r found.items))
     (sym c.in-Ok.ensures) c.verified.ensures
 
-pub returns-in_default : goal.returns-in_default
-returns-in_default c =
-    kept_ok c.unread.result
-    (λ found list. unread_so c.args.asked c.args.given.now c.args.folder.now c.args.files.now c.args.start.now c.in-Err.why _ found.items c.in-Err.ensures c.in_default.not-NoMemory list)
-    c.unread.ensures
+pub returns-in-Err : goal.returns-in-Err
+returns-in-Err c =
+    kept_ok c.unplayable-found.result
+    (λ found both. unread_so c.args.asked c.args.given.now c.args.folder.now c.args.files.now c.args.start.now c.in-Err.why _ found.items c.in-Err.ensures both.1 both.0)
+    c.unplayable-found.ensures
