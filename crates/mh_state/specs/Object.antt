@@ -24,14 +24,31 @@ head_line o = ref_text o.fixed.key ++ codes " " ++ class_word o.fixed.class ++ 1
 
 -- status
 
-abbrev pub line_if : Bool → List ℕ → List ℕ
-line_if b line = if b then line else []
+unfoldable pub flag_line : List ℕ → List ℕ
+flag_line word = word ++ 10 ∷ []
+
+abbrev pub flag_if : Bool → List ℕ → List ℕ
+flag_if b word = if b then flag_line word else []
+
+unfoldable pub available_line : Bool → List ℕ
+available_line b = flag_if b (codes "available")
+
+unfoldable pub running_line : Bool → List ℕ
+running_line b = flag_if b (codes "running")
+
+unfoldable pub highlighted_line : Bool → List ℕ
+highlighted_line b = flag_if b (codes "highlighted")
+
+unfoldable pub selected_line : Bool → List ℕ
+selected_line b = flag_if b (codes "selected")
+
+unfoldable pub overwriting_line : Bool → List ℕ
+overwriting_line b = flag_if b (codes "overwriting")
 
 unfoldable pub status_text : Body → List ℕ
 status_text b =
-    line_if b.available (codes "available" ++ 10 ∷ []) ++ line_if b.running (codes "running" ++ 10 ∷ [])
-    ++ line_if b.highlighted (codes "highlighted" ++ 10 ∷ []) ++ line_if b.selected (codes "selected" ++ 10 ∷ [])
-    ++ line_if b.overwrites (codes "overwriting" ++ 10 ∷ [])
+    available_line b.available ++ running_line b.running ++ highlighted_line b.highlighted ++ selected_line b.selected
+    ++ overwriting_line b.overwrites
 
 -- the numbers of groups of objects, lists, entry fields and drawings
 
@@ -41,11 +58,21 @@ count_line word n = word ++ decimal n ++ 10 ∷ []
 abbrev pub count_if : Bool → List ℕ → ℕ → List ℕ
 count_if has word n = if has then count_line word n else []
 
+unfoldable pub token_line : Class → ℕ → List ℕ
+token_line k n = count_if (is_token_manager k) (codes "token ") n
+
+unfoldable pub first_line : Class → ℕ → List ℕ
+first_line k n = count_if (is_list_group k) (codes "first item ") n
+
+unfoldable pub point_line : Class → ℕ → List ℕ
+point_line k n = count_if (is_entry_field k) (codes "entry point ") n
+
+unfoldable pub drawings_line : Class → ℕ → List ℕ
+drawings_line k n = count_if (is_dynamic_line_art k) (codes "drawings ") n
+
 unfoldable pub counts_text : Class → Body → List ℕ
 counts_text k b =
-    count_if (is_token_manager k) (codes "token ") b.token ++ count_if (is_list_group k) (codes "first item ") b.list.first
-    ++ count_if (is_entry_field k) (codes "entry point ") b.point
-    ++ count_if (is_dynamic_line_art k) (codes "drawings ") (length b.drawings)
+    token_line k b.token ++ first_line k b.list.first ++ point_line k b.point ++ drawings_line k (length b.drawings)
 
 -- what it holds
 
@@ -63,8 +90,11 @@ abbrev pub loaded_line : Option (List ℕ) → List ℕ
 loaded_line None = []
 loaded_line (Some bs) = text_line (Some bs)
 
+abbrev pub selected_note : Bool → List ℕ
+selected_note b = if b then codes ", selected" else []
+
 unfoldable pub entry_line : Entry → List ℕ
-entry_line e = codes "item " ++ ref_text e.object ++ line_if e.selected (codes ", selected") ++ 10 ∷ []
+entry_line e = codes "item " ++ ref_text e.object ++ selected_note e.selected ++ 10 ∷ []
 
 -- attributes
 

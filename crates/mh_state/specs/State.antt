@@ -26,26 +26,50 @@ name_line word name = word ++ name ++ 10 ∷ []
 unfoldable pub object_line : List ℕ → ObjRef → List ℕ
 object_line word r = word ++ ref_text r ++ 10 ∷ []
 
+-- configuration
+
+unfoldable pub steps_line : ℕ → List ℕ
+steps_line n = number_line (codes "steps ") n
+
+unfoldable pub moment_line : ℕ → List ℕ
+moment_line n = number_line (codes "milliseconds ") n
+
+unfoldable pub application_line : List ℕ → List ℕ
+application_line g = name_line (codes "application ") g
+
+unfoldable pub no_scene_line : List ℕ
+no_scene_line = codes "no scene" ++ 10 ∷ []
+
 abbrev pub scene_line : Option (List ℕ) → List ℕ
-scene_line None = codes "no scene" ++ 10 ∷ []
+scene_line None = no_scene_line
 scene_line (Some g) = name_line (codes "scene ") g
 
 unfoldable pub configuration_text : State → List ℕ
 configuration_text s =
-    number_line (codes "steps ") s.taken ++ number_line (codes "milliseconds ") s.moments.present
-    ++ name_line (codes "application ") s.application ++ scene_line s.scene
+    steps_line s.taken ++ moment_line s.moments.present ++ application_line s.application ++ scene_line s.scene
+
+-- what is under way
+
+unfoldable pub begun_line : List ℕ
+begun_line = codes "transition begun" ++ 10 ∷ []
 
 abbrev pub transition_line : Transition → List ℕ
 transition_line transition.Rests = []
 transition_line (transition.Awaits g) = name_line (codes "awaits ") g
-transition_line transition.Begun = codes "transition begun" ++ 10 ∷ []
+transition_line transition.Begun = begun_line
 
 abbrev pub interaction_line : Option Interaction → List ℕ
 interaction_line None = []
 interaction_line (Some i) = object_line (codes "interacts ") i.object
 
+unfoldable pub locks_line : ℕ → List ℕ
+locks_line n = number_line (codes "locks ") n
+
 unfoldable pub going_text : State → List ℕ
-going_text s = transition_line s.transition ++ interaction_line s.interaction ++ number_line (codes "locks ") s.locks
+going_text s = transition_line s.transition ++ interaction_line s.interaction ++ locks_line s.locks
+
+abbrev pub late_line : List ℕ → List ℕ
+late_line g = name_line (codes "late ") g
 
 -- variables
 
@@ -70,5 +94,5 @@ stack_line r = object_line (codes "stack ") r
 -- WHAT IS TOLD OF A STATE
 unfoldable pub state_text : State → List ℕ
 state_text s =
-    configuration_text s ++ going_text s ++ flat_map (name_line (codes "late ")) s.late ++ flat_map variable_line (all s.objects)
+    configuration_text s ++ going_text s ++ flat_map late_line s.late ++ flat_map variable_line (all s.objects)
     ++ flat_map waits_line s.queue ++ flat_map stack_line (reverse s.stack)

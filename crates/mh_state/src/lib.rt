@@ -5,6 +5,7 @@
 
 mod object;
 mod state;
+mod status;
 
 pub use object::put_object;
 pub use state::put_state;

@@ -3,13 +3,13 @@ ghost use Rattle.std.specs.Prelude.{◌≡◌, ◌++◌, OnOk};
 ghost use Rattle.std.specs.List.{flat_map};
 ghost use Rattle.std.specs.Option.{option_copied};
 ghost use Rattle.mh_model.specs.State.{all};
-ghost use Rattle.mh_group.specs.Table.{is_dynamic_line_art, is_entry_field, is_list_group};
 ghost use Rattle.mh_state.specs.Object as spec;
 
+use crate::status::{put_counts, put_status};
 use mh_base::{ObjRef, Octets, Value};
+use mh_group::Attribute;
 use mh_group::attribute::ALL;
-use mh_group::{Attribute, Class};
-use mh_model::{Body, Entry, Held, Object};
+use mh_model::{Entry, Held, Object};
 use mh_store::Objects;
 use mh_told::text::Text;
 use mh_trace::put_ref;
@@ -36,7 +36,8 @@ fn put_absent(text: &mut Text, at: &ObjRef) -> Result<(), AllocError>
     ensures { OnOk result (text.new ≡ text.old ++ spec.absent_line at.now) }
 {
     put_ref(text, at)?;
-    text.put(b" is not present\n")
+    text.put(b" is not present")?;
+    text.put(b"\n")
 }
 
 #[tactic(auto, unfolding(crate::specs::Object::present_text))]
@@ -60,75 +61,6 @@ fn put_head(text: &mut Text, object: &Object) -> Result<(), AllocError>
     put_ref(text, &fixed.key)?;
     text.put(b" ")?;
     text.put(fixed.class.word())?;
-    text.put(b"\n")
-}
-
-#[tactic(auto, unfolding(crate::specs::Object::status_text))]
-fn put_status(text: &mut Text, body: &Body) -> Result<(), AllocError>
-    ensures { OnOk result (text.new ≡ text.old ++ spec.status_text body.now) }
-{
-    put_flag(text, b"available\n", body.available)?;
-    put_flag(text, b"running\n", body.running)?;
-    put_flag(text, b"highlighted\n", body.highlighted)?;
-    put_flag(text, b"selected\n", body.selected)?;
-    put_flag(text, b"overwriting\n", body.overwrites)
-}
-
-fn put_flag(text: &mut Text, line: &[u8], flag: bool) -> Result<(), AllocError>
-    ensures { OnOk result (text.new ≡ text.old ++ spec.line_if flag line.now) }
-{
-    if flag { text.put(line) } else { Ok(()) }
-}
-
-#[tactic(auto, unfolding(crate::specs::Object::counts_text))]
-fn put_counts(text: &mut Text, class: Class, body: &Body) -> Result<(), AllocError>
-    ensures { OnOk result (text.new ≡ text.old ++ spec.counts_text class body.now) }
-{
-    put_count(text, class.is_token_manager(), b"token ", body.token)?;
-    put_count(
-        text,
-        is_list_group(class),
-        b"first item ",
-        body.list.first(),
-    )?;
-    put_count(text, is_entry_field(class), b"entry point ", body.point)?;
-    put_count(text, is_drawing(class), b"drawings ", body.drawings.len())
-}
-
-fn put_count(text: &mut Text, has: bool, word: &[u8], count: usize) -> Result<(), AllocError>
-    ensures { OnOk result (text.new ≡ text.old ++ spec.count_if has word.now count) }
-{
-    if has {
-        put_count_line(text, word, count)
-    } else {
-        Ok(())
-    }
-}
-
-fn is_list_group(class: Class) -> bool
-    ensures { result ≡ is_list_group class }
-{
-    matches!(class, Class::ListGroup)
-}
-
-fn is_entry_field(class: Class) -> bool
-    ensures { result ≡ is_entry_field class }
-{
-    matches!(class, Class::EntryField)
-}
-
-fn is_drawing(class: Class) -> bool
-    ensures { result ≡ is_dynamic_line_art class }
-{
-    matches!(class, Class::DynamicLineArt)
-}
-
-#[tactic(auto, unfolding(crate::specs::Object::count_line))]
-fn put_count_line(text: &mut Text, word: &[u8], count: usize) -> Result<(), AllocError>
-    ensures { OnOk result (text.new ≡ text.old ++ spec.count_line word.now count) }
-{
-    text.put(word)?;
-    text.put_number(count as u64)?;
     text.put(b"\n")
 }
 
@@ -183,8 +115,18 @@ fn put_entry(text: &mut Text, entry: &Entry) -> Result<(), AllocError>
 {
     text.put(b"item ")?;
     put_ref(text, &entry.object)?;
-    put_flag(text, b", selected", entry.selected)?;
+    put_selected(text, entry.selected)?;
     text.put(b"\n")
+}
+
+fn put_selected(text: &mut Text, selected: bool) -> Result<(), AllocError>
+    ensures { OnOk result (text.new ≡ text.old ++ spec.selected_note selected) }
+{
+    if selected {
+        text.put(b", selected")
+    } else {
+        Ok(())
+    }
 }
 
 fn put_attributes(

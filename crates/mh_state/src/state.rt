@@ -23,7 +23,7 @@ pub fn put_state(alloc: Global, text: &mut Text, machine: &Machine) -> Result<()
 {
     put_configuration(text, machine)?;
     put_going(text, machine)?;
-    put_names(text, b"late ", machine.late())?;
+    put_late(text, machine.late())?;
     put_variables(alloc, text, machine.objects())?;
     put_waits(alloc, text, machine)?;
     put_stack(alloc, text, machine.stack())
@@ -33,10 +33,31 @@ pub fn put_state(alloc: Global, text: &mut Text, machine: &Machine) -> Result<()
 fn put_configuration(text: &mut Text, machine: &Machine) -> Result<(), AllocError>
     ensures { OnOk result (text.new ≡ text.old ++ spec.configuration_text machine.now) }
 {
-    put_number(text, b"steps ", machine.taken())?;
-    put_number(text, b"milliseconds ", u64::from(machine.moments().present))?;
-    put_name(text, b"application ", machine.application().as_bytes())?;
+    put_steps(text, machine.taken())?;
+    put_moment(text, machine.moments().present)?;
+    put_application(text, machine.application())?;
     put_scene(text, machine.scene())
+}
+
+#[tactic(auto, unfolding(crate::specs::State::steps_line))]
+fn put_steps(text: &mut Text, steps: u64) -> Result<(), AllocError>
+    ensures { OnOk result (text.new ≡ text.old ++ spec.steps_line steps) }
+{
+    put_number(text, b"steps ", steps)
+}
+
+#[tactic(auto, unfolding(crate::specs::State::moment_line))]
+fn put_moment(text: &mut Text, present: u32) -> Result<(), AllocError>
+    ensures { OnOk result (text.new ≡ text.old ++ spec.moment_line present) }
+{
+    put_number(text, b"milliseconds ", u64::from(present))
+}
+
+#[tactic(auto, unfolding(crate::specs::State::application_line))]
+fn put_application(text: &mut Text, name: &GroupName) -> Result<(), AllocError>
+    ensures { OnOk result (text.new ≡ text.old ++ spec.application_line name.now) }
+{
+    put_name(text, b"application ", name.as_bytes())
 }
 
 #[tactic(auto, unfolding(crate::specs::State::number_line))]
@@ -62,8 +83,16 @@ fn put_scene(text: &mut Text, scene: Option<&GroupName>) -> Result<(), AllocErro
 {
     match scene {
         Some(scene) => put_name(text, b"scene ", scene.as_bytes()),
-        None => text.put(b"no scene\n"),
+        None => put_no_scene(text),
     }
+}
+
+#[tactic(auto, unfolding(crate::specs::State::no_scene_line))]
+fn put_no_scene(text: &mut Text) -> Result<(), AllocError>
+    ensures { OnOk result (text.new ≡ text.old ++ spec.no_scene_line) }
+{
+    text.put(b"no scene")?;
+    text.put(b"\n")
 }
 
 #[tactic(auto, unfolding(crate::specs::State::going_text))]
@@ -72,7 +101,14 @@ fn put_going(text: &mut Text, machine: &Machine) -> Result<(), AllocError>
 {
     put_transition(text, machine.transition())?;
     put_interaction(text, machine.interaction())?;
-    put_number(text, b"locks ", machine.locks())
+    put_locks(text, machine.locks())
+}
+
+#[tactic(auto, unfolding(crate::specs::State::locks_line))]
+fn put_locks(text: &mut Text, locks: u64) -> Result<(), AllocError>
+    ensures { OnOk result (text.new ≡ text.old ++ spec.locks_line locks) }
+{
+    put_number(text, b"locks ", locks)
 }
 
 fn put_transition(text: &mut Text, transition: &Transition) -> Result<(), AllocError>
@@ -81,8 +117,16 @@ fn put_transition(text: &mut Text, transition: &Transition) -> Result<(), AllocE
     match transition {
         Transition::Rests => Ok(()),
         Transition::Awaits(scene) => put_name(text, b"awaits ", scene.as_bytes()),
-        Transition::Begun => text.put(b"transition begun\n"),
+        Transition::Begun => put_begun(text),
     }
+}
+
+#[tactic(auto, unfolding(crate::specs::State::begun_line))]
+fn put_begun(text: &mut Text) -> Result<(), AllocError>
+    ensures { OnOk result (text.new ≡ text.old ++ spec.begun_line) }
+{
+    text.put(b"transition begun")?;
+    text.put(b"\n")
 }
 
 fn put_interaction(text: &mut Text, begun: Option<&Interaction>) -> Result<(), AllocError>
@@ -103,11 +147,11 @@ fn put_line(text: &mut Text, word: &[u8], at: &ObjRef) -> Result<(), AllocError>
     text.put(b"\n")
 }
 
-fn put_names(text: &mut Text, word: &[u8], names: &[GroupName]) -> Result<(), AllocError>
-    ensures { OnOk result (text.new ≡ text.old ++ flat_map (spec.name_line word.now) names.now) }
+fn put_late(text: &mut Text, names: &[GroupName]) -> Result<(), AllocError>
+    ensures { OnOk result (text.new ≡ text.old ++ flat_map spec.late_line names.now) }
 {
     for name in names {
-        put_name(text, word, name.as_bytes())?;
+        put_name(text, b"late ", name.as_bytes())?;
     }
     Ok(())
 }

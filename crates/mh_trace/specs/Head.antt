@@ -74,10 +74,20 @@ keyed_note _ _ s = []
 unfoldable pub number_text : ℕ → List ℕ
 number_text n = decimal n ++ codes " "
 
+-- what is done, and with which values
+unfoldable pub entry_head : Option Item → Option Waiting → State → List ℕ
+entry_head i w s = number_text (s.taken + 1) ++ entry_text i w ++ operands_note i (all s.objects)
+
+-- where it stands, to what it is done, and what is tested
+unfoldable pub place_head : Directory → Option Item → State → List Site → List ℕ
+place_head ws i s ps = place_note ws (place_of i ps) ++ through_note i (all s.objects) ++ tested_note i (all s.objects)
+
+-- who hears of it
+unfoldable pub ears_head : Option Item → Option Waiting → State → List ℕ
+ears_head i w s = keyed_note i w s ++ ears form.Text (told i w s) (all s.objects)
+
 unfoldable pub head_text : Directory → Option Item → Option Waiting → State → List Site → List ℕ
-head_text ws i w s ps =
-    number_text (s.taken + 1) ++ entry_text i w ++ operands_note i (all s.objects) ++ place_note ws (place_of i ps) ++ through_note i (all s.objects)
-    ++ tested_note i (all s.objects) ++ keyed_note i w s ++ ears form.Text (told i w s) (all s.objects)
+head_text ws i w s ps = entry_head i w s ++ place_head ws i s ps ++ ears_head i w s
 
 -- the same as members of an object
 
@@ -108,11 +118,17 @@ through_json _ os = []
 unfoldable pub keyed_json : List ℕ → List ℕ
 keyed_json note = if is_empty note then [] else more_text (codes "key") (behind note 2)
 
+unfoldable pub entry_json : Option Item → Option Waiting → State → List ℕ
+entry_json i w s = number_json (s.taken + 1) ++ more_text (codes "entry") (entry_text i w) ++ operands_json i (all s.objects)
+
+unfoldable pub standing_json : Directory → Option Item → State → List Site → List ℕ
+standing_json ws i s ps = place_json ws (place_of i ps) ++ through_json i (all s.objects) ++ tested_json i (all s.objects)
+
+unfoldable pub ears_json : Option Item → Option Waiting → State → List ℕ
+ears_json i w s = keyed_json (keyed_note i w s) ++ list_if (codes "heard") (ears form.Json (told i w s) (all s.objects))
+
 unfoldable pub head_json : Directory → Option Item → Option Waiting → State → List Site → List ℕ
-head_json ws i w s ps =
-    number_json (s.taken + 1) ++ more_text (codes "entry") (entry_text i w) ++ operands_json i (all s.objects) ++ place_json ws (place_of i ps)
-    ++ through_json i (all s.objects) ++ tested_json i (all s.objects) ++ keyed_json (keyed_note i w s)
-    ++ list_if (codes "heard") (ears form.Json (told i w s) (all s.objects))
+head_json ws i w s ps = entry_json i w s ++ standing_json ws i s ps ++ ears_json i w s
 
 abbrev pub head_by : Form → Directory → Option Item → Option Waiting → State → List Site → List ℕ
 head_by form.Text ws i w s ps = head_text ws i w s ps

@@ -24,6 +24,7 @@ use Rattle.mh_machine.specs.declared.stepped.Stepped.{Stepped}
 use Rattle.mh_script.specs.declared.script.Command.{Command}
 use Rattle.mh_script.specs.declared.script.Command.TheVariants as command
 use Rattle.mh_trace.specs.declared.seen.Seen.{Seen}
+use Rattle.mh_trace.specs.declared.seen.marks.Marks.{Marks}
 use Rattle.mh_trace.specs.declared.site.EffectKind.TheVariants as kind
 use Rattle.mh_trace.specs.declared.site.Site.{Site}
 use Rattle.mh_trace.specs.Changes.{notes}
@@ -42,17 +43,19 @@ use Rattle.mh_trace.specs.Outcome.{is_fault, may_be_nothing, outcome_by}
 use Rattle.mh_trace.specs.Commands.{post_by, preset_by, did_by, total_by, show_by}
 
 -- What is traced: the machine's state, where the actions on its work list stand, in their order, which actions were done,
--- and which groups were entered, each once; and where actions are written.
+-- and which groups were entered, each once; where the entries stand that were faults, in their order; and where actions are
+-- written.
 pub record Tracing : Type 0 where
   pub state : State
   pub places : List Site
   pub done : List Site
   pub entered : List (List ℕ)
+  pub faulted : List (Option Site)
   pub directory : Directory
 
 -- before the first command
 abbrev pub untraced : Directory → State → Tracing
-untraced ws s = record { state = s; places = []; done = []; entered = []; directory = ws }
+untraced ws s = record { state = s; places = []; done = []; entered = []; faulted = []; directory = ws }
 
 -- Where the actions stand that a step puts
 
@@ -140,6 +143,11 @@ abbrev pub done_with : Bool → Option Site → List Site → List Site
 done_with true at xs = xs
 done_with false at xs = add_option at xs
 
+-- what is no action has no place
+abbrev pub faulted_with : Bool → Option Site → List (Option Site) → List (Option Site)
+faulted_with true at xs = xs ++ at ∷ []
+faulted_with false at xs = xs
+
 abbrev pub entered_with : Option Item → List (List ℕ) → List (List ℕ)
 entered_with (Some (item.Enter g)) gs = add_name g gs
 entered_with _ gs = gs
@@ -151,19 +159,21 @@ waiting_left None s = length s.queue - 1
 
 -- WHAT IS SEEN OF A STATE BEFORE ITS STEP, and what a step makes of it
 
+-- what every step is noted by, told or not
+abbrev pub marks_of : Option Item → State → List Site → Marks
+marks_of i s ps = record { opened = opened i s; closing = closing i s; begun = is_begun s.transition; place = place_of i ps }
+
+-- what the line of a step is told by
 abbrev pub seen_of : Option Item → State → List Site → Seen
 seen_of i s ps = record {
-  opened = opened i s;
-  closing = closing i s;
+  marks = marks_of i s ps;
   dropped = length (places_behind i ps);
   waiting = waiting_left i s;
-  begun = is_begun s.transition;
   quiet = is_quiet i (first s) s.interaction (opened i s);
   stacks = restacks i;
   glance = glance_of (restacks i) (waiting_left i s) s;
   touched = touched i (first s) s;
   why = why_of i (is_begun s.transition) (all s.objects);
-  place = place_of i ps;
 }
 
 -- behind the step nothing but objects has changed, as far as it was seen, where it answered this
@@ -173,26 +183,24 @@ has_rested x a t = may_be_nothing a x.quiet && is_same x.stacks x.glance t
 -- what is told behind the step, in this state, where it answered this
 abbrev pub settled_text : Form → Seen → Stepped → State → List ℕ
 settled_text f x a t =
-    outcome_by f (starts x.begun t) x.dropped (x.waiting - length t.queue) (notes f x.touched (all t.objects)) (has_rested x a t) x.why a
+    outcome_by f (starts x.marks.begun t) x.dropped (x.waiting - length t.queue) (notes f x.touched (all t.objects)) (has_rested x a t) x.why a
 
 -- what is traced behind the step, whether its entry was a fault being known
-abbrev pub noted : Option Item → Seen → Bool → Tracing → Tracing
-noted i x b p = record {
+abbrev pub noted : Option Item → Marks → Bool → Tracing → Tracing
+noted i m b p = record {
   state = p.state;
-  places = places_with (starts x.begun p.state) x.closing (put_sites b x.opened) (places_behind i p.places);
-  done = done_with b x.place p.done;
+  places = places_with (starts m.begun p.state) m.closing (put_sites b m.opened) (places_behind i p.places);
+  done = done_with b m.place p.done;
   entered = entered_with i p.entered;
+  faulted = faulted_with b m.place p.faulted;
   directory = p.directory;
 }
-
-abbrev pub settled : Option Item → Seen → Stepped → Tracing → Tracing
-settled i x a p = noted i x (is_fault a) p
 
 -- A STEP, and its line
 
 abbrev pub traced_by : Option Item → Tracing → Tracing
 traced_by i p =
-    settled i (seen_of i p.state p.places) (answer_of p.state) (record p { state = step p.state })
+    noted i (marks_of i p.state p.places) (is_fault (answer_of p.state)) (record p { state = step p.state })
 
 abbrev pub traced_step : Tracing → Tracing
 traced_step p = traced_by (front p.state) p
@@ -201,10 +209,13 @@ traced_step p = traced_by (front p.state) p
 abbrev pub told_if : Bool → List ℕ → List ℕ
 told_if b text = if b then text else []
 
+abbrev pub told_line : Form → Option Item → Tracing → List ℕ
+told_line f i p =
+    head_by f p.directory i (first p.state) p.state p.places
+    ++ settled_text f (seen_of i p.state p.places) (answer_of p.state) (step p.state)
+
 abbrev pub line_by : Telling → Option Item → Tracing → List ℕ
-line_by t i p =
-    told_if (tells t (p.state.taken + 1)) (head_by t.form p.directory i (first p.state) p.state p.places)
-    ++ told_if (tells t (p.state.taken + 1)) (settled_text t.form (seen_of i p.state p.places) (answer_of p.state) (step p.state))
+line_by t i p = told_if (tells t (p.state.taken + 1)) (told_line t.form i p)
 
 abbrev pub step_line : Telling → Tracing → List ℕ
 step_line t p = line_by t (front p.state) p

@@ -14,7 +14,7 @@ use crate::ears::listening::Listening;
 use crate::ears::{put_ears, put_key_note, told};
 use crate::form::Form;
 use crate::head::json::put_head_json;
-use crate::seen::place_of;
+use crate::seen::marks::place_of;
 use crate::site::Site;
 use crate::why::{put_operands, put_tested};
 use crate::words::{put_item, put_ref, put_site, put_waiting};
@@ -64,16 +64,61 @@ fn put_head_text(
     ensures { OnOk result (text.new
         ≡ text.old ++ spec.head_text directory.now front.now (spec.first machine.now) machine.now places.now.items) }
 {
-    let waiting = machine.queue().first();
+    put_entry_head(alloc, text, front, machine)?;
+    put_place_head(alloc, text, front, machine, places, directory)?;
+    put_ears_head(alloc, text, front, machine, listening)
+}
+
+#[tactic(auto, unfolding(crate::specs::Head::entry_head))]
+fn put_entry_head(
+    alloc: Global,
+    text: &mut Text,
+    front: &Option<Item>,
+    machine: &Machine,
+) -> Result<(), AllocError>
+    requires { machine.now.taken + 1 < 2 ^ 64 }
+    ensures { OnOk result (text.new
+        ≡ text.old ++ spec.entry_head front.now (spec.first machine.now) machine.now) }
+{
     put_number(text, machine.taken() + 1)?;
-    put_entry(alloc, text, front, waiting)?;
-    put_operands(alloc, text, front, machine.objects())?;
+    put_entry(alloc, text, front, machine.queue().first())?;
+    put_operands(alloc, text, front, machine.objects())
+}
+
+#[tactic(auto, unfolding(crate::specs::Head::place_head))]
+fn put_place_head(
+    alloc: Global,
+    text: &mut Text,
+    front: &Option<Item>,
+    machine: &Machine,
+    places: &VecDeque<Site>,
+    directory: &Directory,
+) -> Result<(), AllocError>
+    ensures { OnOk result (text.new
+        ≡ text.old ++ spec.place_head directory.now front.now machine.now places.now.items) }
+{
     put_place_note(text, front, places, directory)?;
     put_through(text, front, machine.objects())?;
-    put_tested(alloc, text, front, machine.objects())?;
+    put_tested(alloc, text, front, machine.objects())
+}
+
+#[tactic(auto, unfolding(crate::specs::Head::ears_head))]
+fn put_ears_head(
+    alloc: Global,
+    text: &mut Text,
+    front: &Option<Item>,
+    machine: &Machine,
+    listening: &Listening,
+) -> Result<(), AllocError>
+    requires { IsIndexOf listening.now.entries (parts (all machine.now.objects)) }
+    ensures { OnOk result (text.new
+        ≡ text.old ++ spec.ears_head front.now (spec.first machine.now) machine.now) }
+{
+    let waiting = machine.queue().first();
     put_keyed(alloc, text, front, waiting, machine)?;
     let told = told(front, waiting, machine)?;
-    put_ears(alloc, Form::Text, text, &told, machine.objects(), listening)
+    put_ears(alloc, Form::Text, text, &told, machine.objects(), listening)?;
+    Ok(())
 }
 
 #[tactic(auto, unfolding(crate::specs::Head::number_text))]

@@ -31,7 +31,7 @@ pub fn put_outcome(
 {
     let changes = changes(alloc, form, seen.touched.as_slice(), machine.objects())?;
     let rests = has_rested(seen, answer, machine);
-    let started = starts(seen.begun, machine);
+    let started = starts(seen.marks.begun, machine);
     let forgotten = seen.waiting.saturating_sub(machine.queue().len());
     put_parts_in(
         alloc,

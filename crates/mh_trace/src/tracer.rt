@@ -29,7 +29,7 @@ use std::collections::VecDeque;
 use std::marker::Model;
 
 /// A machine whose steps are told: with the places of the actions on its work list, the places of those that were
-/// done, the groups that were entered, and a directory of where actions are written.
+/// done and of those that were faults, the groups that were entered, and a directory of where actions are written.
 #[derive(Drop)]
 pub struct Tracer {
     pub(crate) alloc: Global,
@@ -37,6 +37,7 @@ pub struct Tracer {
     pub(crate) places: VecDeque<Site>,
     pub(crate) done: IndexSet<Site>,
     pub(crate) entered: IndexSet<GroupName>,
+    pub(crate) faulted: Vec<Option<Site>>,
     pub(crate) directory: Directory,
 }
 
@@ -50,6 +51,7 @@ impl Model for Tracer {
       places = t.places.items;
       done = t.done.keys;
       entered = t.entered.keys;
+      faulted = t.faulted.items;
       directory = t.directory;
     } };
 }
@@ -65,6 +67,7 @@ impl Tracer {
             places: VecDeque::new(alloc),
             done: IndexSet::new(alloc),
             entered: IndexSet::new(alloc),
+            faulted: Vec::new(alloc),
             directory,
         }
     }
@@ -88,6 +91,20 @@ impl Tracer {
         ensures { result.now ≡ self.now.entered }
     {
         self.entered.as_slice()
+    }
+
+    /// Where the actions stand that were faults, in the order of the faults.
+    pub fn faulted(&self) -> &[Option<Site>]
+        ensures { result.now ≡ self.now.faulted }
+    {
+        self.faulted.as_slice()
+    }
+
+    /// Where actions are written.
+    pub fn directory(&self) -> &Directory
+        ensures { result.now ≡ self.now.directory }
+    {
+        &self.directory
     }
 
     /// Puts content files there before the first command, and a line on each that is refused.

@@ -16,7 +16,7 @@ use crate::ears::{put_ears, told};
 use crate::form::Form;
 use crate::head::{put_entry, put_keyed};
 use crate::json::{behind, put_list_if, put_more, put_name, put_number, put_plain};
-use crate::seen::place_of;
+use crate::seen::marks::place_of;
 use crate::site::Site;
 use crate::why::json::{put_operands, put_tested};
 use crate::words::put_place;
@@ -45,18 +45,73 @@ pub fn put_head_json(
     ensures { OnOk result (text.new
         ≡ text.old ++ spec.head_json directory.now front.now (spec.first machine.now) machine.now places.now.items) }
 {
-    let waiting = machine.queue().first();
-    let entry = entry_of(alloc, front, waiting)?;
-    let key = keyed(alloc, front, waiting, machine)?;
-    let heard = heard(alloc, front, waiting, machine, listening)?;
+    put_entry_json(alloc, text, front, machine)?;
+    put_standing(alloc, text, front, machine, places, directory)?;
+    put_ears_json(alloc, text, front, machine, listening)
+}
+
+#[tactic(auto, unfolding(crate::specs::Head::entry_json))]
+fn put_entry_json(
+    alloc: Global,
+    text: &mut Text,
+    front: &Option<Item>,
+    machine: &Machine,
+) -> Result<(), AllocError>
+    requires { machine.now.taken + 1 < 2 ^ 64 }
+    ensures { OnOk result (text.new
+        ≡ text.old ++ spec.entry_json front.now (spec.first machine.now) machine.now) }
+{
+    let entry = entry_of(alloc, front, machine.queue().first())?;
     put_step(text, machine.taken() + 1)?;
     put_more(text, b"entry", entry.as_slice())?;
-    put_operands(alloc, text, front, machine.objects())?;
+    put_operands(alloc, text, front, machine.objects())
+}
+
+#[tactic(auto, unfolding(crate::specs::Head::standing_json))]
+fn put_standing(
+    alloc: Global,
+    text: &mut Text,
+    front: &Option<Item>,
+    machine: &Machine,
+    places: &VecDeque<Site>,
+    directory: &Directory,
+) -> Result<(), AllocError>
+    ensures { OnOk result (text.new
+        ≡ text.old ++ spec.standing_json directory.now front.now machine.now places.now.items) }
+{
     put_site_of(alloc, text, front, places, directory)?;
     put_through(alloc, text, front, machine.objects())?;
-    put_tested(alloc, text, front, machine.objects())?;
-    put_key(text, key.as_slice())?;
+    put_tested(alloc, text, front, machine.objects())
+}
+
+#[tactic(auto, unfolding(crate::specs::Head::ears_json))]
+fn put_ears_json(
+    alloc: Global,
+    text: &mut Text,
+    front: &Option<Item>,
+    machine: &Machine,
+    listening: &Listening,
+) -> Result<(), AllocError>
+    requires { IsIndexOf listening.now.entries (parts (all machine.now.objects)) }
+    ensures { OnOk result (text.new
+        ≡ text.old ++ spec.ears_json front.now (spec.first machine.now) machine.now) }
+{
+    put_key_of(alloc, text, front, machine)?;
+    let heard = heard(alloc, front, machine, listening)?;
     put_list_if(text, b"heard", heard.as_slice())
+}
+
+fn put_key_of(
+    alloc: Global,
+    text: &mut Text,
+    front: &Option<Item>,
+    machine: &Machine,
+) -> Result<(), AllocError>
+    ensures { let s = machine.now in
+        OnOk result (text.new ≡ text.old ++ spec.keyed_json (spec.keyed_note front.now (spec.first s) s)) }
+{
+    let key = keyed(alloc, front, machine.queue().first(), machine)?;
+    put_key(text, key.as_slice())
 }
 
 #[tactic(auto, unfolding(crate::specs::Head::number_json))]
@@ -96,16 +151,15 @@ fn keyed(
 fn heard(
     alloc: Global,
     front: &Option<Item>,
-    waiting: Option<&Waiting>,
     machine: &Machine,
     listening: &Listening,
 ) -> Result<Text, AllocError>
     requires { IsIndexOf listening.now.entries (parts (all machine.now.objects)) }
     ensures { IfOk result (λ list. list
-        ≡ ears form.Json (told_lem front.now (option_copied waiting.entry) machine.now) (all machine.now.objects)) }
+        ≡ ears form.Json (told_lem front.now (spec.first machine.now) machine.now) (all machine.now.objects)) }
 {
     let mut list = Text::new(alloc);
-    let told = told(front, waiting, machine)?;
+    let told = told(front, machine.queue().first(), machine)?;
     put_ears(
         alloc,
         Form::Json,

@@ -1,4 +1,4 @@
-//! Lists of places: of the actions on the work list, of those that were done, and of the groups that were entered.
+//! Lists of places: of the actions on the work list, of those that were done or were faults, and of the groups that were entered.
 ghost use Rattle.std.specs.Prelude.{◌≡◌, ◌++◌, ◌<◌, drop, OnOk};
 ghost use Rattle.mh_trace.specs.Trace as spec;
 
@@ -62,15 +62,18 @@ fn put_in_front(places: &mut VecDeque<Site>, put: Vec<Site>) -> Result<(), Alloc
     Ok(())
 }
 
-/// Adds the place of an action that was done, if one was.
-pub fn add_done(
+/// Adds the place of an action, if the step's entry was one, to those that were done, or to those that were faults.
+pub fn add_place(
     done: &mut IndexSet<Site>,
+    faulted: &mut Vec<Option<Site>>,
     is_fault: bool,
     place: Option<Site>,
 ) -> Result<(), AllocError>
-    ensures { OnOk result (done.new.keys ≡ spec.done_with is_fault place done.old.keys) }
+    ensures done { OnOk result (done.new.keys ≡ spec.done_with is_fault place done.old.keys) }
+    ensures faulted { OnOk result (faulted.new.items ≡ spec.faulted_with is_fault place faulted.old.items) }
 {
     if is_fault {
+        faulted.push(place)?;
         return Ok(());
     }
     match place {

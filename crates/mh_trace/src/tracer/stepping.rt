@@ -3,17 +3,18 @@ ghost use Rattle.std.specs.Prelude.{◌≡◌, ◌++◌, ◌+◌, ◌<◌, ◌^�
 ghost use Rattle.mh_model.specs.Service.{parts};
 ghost use Rattle.mh_model.specs.State.{all};
 ghost use Rattle.mh_trace.specs.Listening.{IsIndexOf, is_exchange};
-ghost use Rattle.mh_trace.specs.Head.{first, head_by};
+ghost use Rattle.mh_trace.specs.Outcome.{is_fault};
 ghost use Rattle.mh_trace.specs.Trace as spec;
 
 use crate::ears::listening::{Listening, listening_of};
 use crate::form::{Form, Telling};
 use crate::head::put_head;
 use crate::outcome::put_outcome;
+use crate::seen::marks::{Marks, marks_of};
 use crate::seen::{Seen, is_fault, see, starts};
 use crate::tracer::Tracer;
 use crate::tracer::calls::step_once;
-use crate::tracer::places::{add_done, add_entered, place_behind, put_sites};
+use crate::tracer::places::{add_entered, add_place, place_behind, put_sites};
 use mh_machine::Stepped;
 use mh_model::Item;
 use mh_store::Objects;
@@ -65,7 +66,7 @@ impl Tracer {
         Ok(unless_exchanged(&front, listening))
     }
 
-    /// Makes the step that does this item, or takes what waits where there is none.
+    /// Makes the step that does this item, or takes what waits where there is none, and puts its line, where it is told.
     fn step_with(
         &mut self,
         telling: &Telling,
@@ -78,32 +79,25 @@ impl Tracer {
         ensures line { OnOk result (text.new ≡ text.old ++ spec.line_by telling.now front.now self.old) }
         ensures left { OnOk result (self.new ≡ spec.traced_by front.now self.old) }
     {
-        let told = telling.tells(self.machine.taken() + 1);
-        self.put_head_if(told, telling.form, front, listening, text)?;
-        let seen = see(self.alloc, front, &self.machine, &self.places, listening)?;
-        let answer = step_once(&mut self.machine)?;
-        self.settle(told, telling.form, front, seen, &answer, text)?;
-        Ok(())
+        if telling.tells(self.machine.taken() + 1) {
+            self.step_told(telling.form, front, listening, text)
+        } else {
+            self.step_untold(front, listening)
+        }
     }
 
-    /// Puts the beginning of what is told of the next step, where it is told.
-    fn put_head_if(
-        &self,
-        told: bool,
+    fn step_told(
+        &mut self,
         form: Form,
         front: &Option<Item>,
         listening: &Listening,
         text: &mut Text,
     ) -> Result<(), AllocError>
-        requires room { self.now.state.taken + 1 < 2 ^ 64 }
-        requires index { IsIndexOf listening.now.entries (parts (all self.now.state.objects)) }
-        ensures { let s = self.now.state in
-            OnOk result (text.new
-            ≡ text.old ++ spec.told_if told (head_by form self.now.directory front.now (first s) s self.now.places)) }
+        requires room { self.old.state.taken + 1 < 2 ^ 64 }
+        requires index { IsIndexOf listening.now.entries (parts (all self.old.state.objects)) }
+        ensures line { OnOk result (text.new ≡ text.old ++ spec.told_line form front.now self.old) }
+        ensures left { OnOk result (self.new ≡ spec.traced_by front.now self.old) }
     {
-        if !told {
-            return Ok(());
-        }
         put_head(
             self.alloc,
             form,
@@ -113,13 +107,28 @@ impl Tracer {
             &self.places,
             &self.directory,
             listening,
-        )
+        )?;
+        let seen = see(self.alloc, front, &self.machine, &self.places, listening)?;
+        let answer = step_once(&mut self.machine)?;
+        self.settle(form, front, seen, &answer, text)?;
+        Ok(())
     }
 
-    /// Puts what came of a step, where it is told, and notes it.
+    /// What the line alone asks for is not looked at: a step that is not told costs less.
+    fn step_untold(&mut self, front: &Option<Item>, listening: &Listening) -> Result<(), AllocError>
+        requires room { self.old.state.taken + 1 < 2 ^ 64 }
+        requires index { IsIndexOf listening.now.entries (parts (all self.old.state.objects)) }
+        ensures { OnOk result (self.new ≡ spec.traced_by front.now self.old) }
+    {
+        let marks = marks_of(self.alloc, front, &self.machine, &self.places, listening)?;
+        let answer = step_once(&mut self.machine)?;
+        self.note(front, marks, is_fault(&answer))?;
+        Ok(())
+    }
+
+    /// Puts what came of a step, and notes it.
     fn settle(
         &mut self,
-        told: bool,
         form: Form,
         front: &Option<Item>,
         seen: Seen,
@@ -127,46 +136,28 @@ impl Tracer {
         text: &mut Text,
     ) -> Result<(), AllocError>
         ensures line { OnOk result (text.new
-            ≡ text.old ++ spec.told_if told (spec.settled_text form seen answer.now self.old.state)) }
-        ensures left { OnOk result (self.new ≡ spec.settled front.now seen answer.now self.old) }
+            ≡ text.old ++ spec.settled_text form seen answer.now self.old.state) }
+        ensures left { OnOk result (self.new ≡ spec.noted front.now seen.marks (is_fault answer.now) self.old) }
     {
-        self.put_outcome_if(told, form, &seen, answer, text)?;
-        self.note(front, seen, is_fault(answer))?;
+        put_outcome(self.alloc, form, text, &seen, answer, &self.machine)?;
+        self.note(front, seen.marks, is_fault(answer))?;
         Ok(())
     }
 
-    fn put_outcome_if(
-        &self,
-        told: bool,
-        form: Form,
-        seen: &Seen,
-        answer: &Stepped,
-        text: &mut Text,
-    ) -> Result<(), AllocError>
-        ensures { OnOk result (text.new
-            ≡ text.old ++ spec.told_if told (spec.settled_text form seen.now answer.now self.now.state)) }
-    {
-        if told {
-            put_outcome(self.alloc, form, text, seen, answer, &self.machine)
-        } else {
-            Ok(())
-        }
-    }
-
     /// Notes a step behind which the machine is.
-    fn note(&mut self, front: &Option<Item>, seen: Seen, is_fault: bool) -> Result<(), AllocError>
-        ensures { OnOk result (self.new ≡ spec.noted front.now seen is_fault self.old) }
+    fn note(&mut self, front: &Option<Item>, marks: Marks, is_fault: bool) -> Result<(), AllocError>
+        ensures { OnOk result (self.new ≡ spec.noted front.now marks is_fault self.old) }
     {
-        let started = starts(seen.begun, &self.machine);
-        let Seen {
+        let started = starts(marks.begun, &self.machine);
+        let Marks {
             opened,
             closing,
             place,
             ..
-        } = seen;
+        } = marks;
         let put = put_sites(self.alloc, is_fault, opened);
         place_behind(&mut self.places, front, started, closing, put)?;
-        add_done(&mut self.done, is_fault, place)?;
+        add_place(&mut self.done, &mut self.faulted, is_fault, place)?;
         add_entered(&mut self.entered, front)
     }
 }

@@ -1,8 +1,0 @@
-use Rattle.std.proofs.Common.{◌≡◌, ◌++◌, drop}
-use Rattle.std.specs.List.{flat_map}
-use Rattle.mh_state.specs.State.{name_line}
-use Rattle.mh_state.proofs.state.put_names.Given as goal
-
-abbrev pub invariant-loop-name : goal.invariant-loop-name
-invariant-loop-name l =
-    l.text ++ flat_map (name_line l.word) (drop l.name-index l.names) ≡ l.initial.text ++ flat_map (name_line l.word) l.names
