@@ -9,8 +9,8 @@ pub returns : goal.returns
 returns c =
     let added = note_findings c.args.asked c.args.service.now c.args.folder.now c.args.grounds.now in
     let never = subst
-      (λ (fs : List File). IsNeverList c.args.asked.all c.args.service.now (flow_in c.args.service.now c.args.flow.now) c.args.folder.now fs c.in_ok-found.found.items)
-      c.directory-directory.ensures c.in_ok-found.ensures in
+    (λ (fs : List File). IsNeverList c.args.asked.all c.args.service.now (flow_in c.args.service.now c.args.flow.now) c.args.folder.now fs c.in_ok-found.found.items)
+    c.directory-directory.ensures c.in_ok-found.ensures in
     record {
       alive = never.alive;
       is = never.is;
