@@ -1,17 +1,20 @@
 -- What is told of a state, a line for each thing: steps, moment, configuration, transition, interaction and lock, the scenes
--- that are late, what variables hold, what waits, and the display stack.
+-- that are late, what variables hold, the timers that are set, what waits, and the display stack.
 use Rattle.std.specs.Prelude.{ℕ, List, [], ◌∷◌, ◌++◌, codes, reverse, Option, Some, None}
-use Rattle.std.specs.Fmt.{decimal}
+use Rattle.std.specs.Fmt.{decimal, signed_decimal}
 use Rattle.std.specs.List.{flat_map}
 use Rattle.mh_base.specs.declared.obj_ref.ObjRef.{ObjRef}
 use Rattle.mh_base.specs.declared.value.Value.{Value}
 use Rattle.mh_model.specs.declared.input.Waiting.{Waiting}
 use Rattle.mh_model.specs.declared.interaction.Interaction.{Interaction}
 use Rattle.mh_model.specs.declared.object.Object.{Object}
+use Rattle.mh_model.specs.declared.time.Timer.{Timer}
 use Rattle.mh_model.specs.declared.transition.Transition.{Transition}
 use Rattle.mh_model.specs.declared.transition.Transition.TheVariants as transition
+use Rattle.mh_model.specs.Limits.{most_moment}
 use Rattle.mh_model.specs.Property.{value_held}
 use Rattle.mh_model.specs.State.{State, all}
+use Rattle.mh_model.specs.Time.{due}
 use Rattle.mh_trace.specs.Changes.{short_value}
 use Rattle.mh_trace.specs.Words.{ref_text, waiting_text}
 
@@ -83,6 +86,15 @@ line_if r (Some v) = held_line r v
 abbrev pub variable_line : Object → List ℕ
 variable_line o = line_if o.fixed.key (value_held o.fixed o.body)
 
+-- the timers that are set, in the order in which they are due
+
+unfoldable pub timer_line : Timer → List ℕ
+timer_line t =
+    codes "timer " ++ t.group ++ codes " " ++ signed_decimal t.id ++ codes " due " ++ decimal t.due ++ 10 ∷ []
+
+abbrev pub timers_text : State → List ℕ
+timers_text s = flat_map timer_line (due most_moment s.application s.timers)
+
 -- what waits, and what is shown
 
 unfoldable pub waits_line : Waiting → List ℕ
@@ -95,4 +107,4 @@ stack_line r = object_line (codes "stack ") r
 unfoldable pub state_text : State → List ℕ
 state_text s =
     configuration_text s ++ going_text s ++ flat_map late_line s.late ++ flat_map variable_line (all s.objects)
-    ++ flat_map waits_line s.queue ++ flat_map stack_line (reverse s.stack)
+    ++ timers_text s ++ flat_map waits_line s.queue ++ flat_map stack_line (reverse s.stack)

@@ -7,12 +7,12 @@ ghost use Rattle.mh_state.specs.State as spec;
 
 use mh_base::{GroupName, ObjRef, Value};
 use mh_machine::Machine;
-use mh_model::{Interaction, Object, Transition, Waiting};
+use mh_model::{Interaction, Object, Timer, Transition, Waiting};
 use mh_stack::Walk;
 use mh_store::Objects;
 use mh_told::text::Text;
 use mh_trace::short::put_short;
-use mh_trace::words::put_waiting;
+use mh_trace::words::{put_integer, put_waiting};
 use mh_trace::{copied_refs, put_ref};
 use std::alloc::{AllocError, Global};
 
@@ -25,6 +25,7 @@ pub fn put_state(alloc: Global, text: &mut Text, machine: &Machine) -> Result<()
     put_going(text, machine)?;
     put_late(text, machine.late())?;
     put_variables(alloc, text, machine.objects())?;
+    put_timers(alloc, text, machine)?;
     put_waits(alloc, text, machine)?;
     put_stack(alloc, text, machine.stack())
 }
@@ -192,6 +193,35 @@ fn put_held(alloc: Global, text: &mut Text, at: &ObjRef, value: &Value) -> Resul
     put_ref(text, at)?;
     text.put(b" holds ")?;
     put_short(alloc, text, value)?;
+    text.put(b"\n")
+}
+
+fn put_timers(alloc: Global, text: &mut Text, machine: &Machine) -> Result<(), AllocError>
+    ensures { OnOk result (text.new ≡ text.old ++ spec.timers_text machine.now) }
+{
+    let timers = machine.timers()?;
+    put_all_timers(alloc, text, timers.as_slice())
+}
+
+fn put_all_timers(alloc: Global, text: &mut Text, timers: &[Timer]) -> Result<(), AllocError>
+    ensures { OnOk result (text.new ≡ text.old ++ flat_map spec.timer_line timers.now) }
+{
+    for timer in timers {
+        put_timer(alloc, text, timer)?;
+    }
+    Ok(())
+}
+
+#[tactic(auto, unfolding(crate::specs::State::timer_line))]
+fn put_timer(alloc: Global, text: &mut Text, timer: &Timer) -> Result<(), AllocError>
+    ensures { OnOk result (text.new ≡ text.old ++ spec.timer_line timer.now) }
+{
+    text.put(b"timer ")?;
+    text.put(timer.group.as_bytes())?;
+    text.put(b" ")?;
+    put_integer(alloc, text, timer.id)?;
+    text.put(b" due ")?;
+    text.put_number(timer.due)?;
     text.put(b"\n")
 }
 
