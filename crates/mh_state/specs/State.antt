@@ -53,8 +53,11 @@ configuration_text s =
 
 -- what is under way
 
+unfoldable pub begun_word : List ℕ
+begun_word = codes "transition begun"
+
 unfoldable pub begun_line : List ℕ
-begun_line = codes "transition begun" ++ 10 ∷ []
+begun_line = begun_word ++ 10 ∷ []
 
 abbrev pub transition_line : Transition → List ℕ
 transition_line transition.Rests = []

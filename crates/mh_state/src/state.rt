@@ -1,5 +1,5 @@
 //! A state, a line for each thing that is told of it.
-ghost use Rattle.std.specs.Prelude.{◌≡◌, ◌++◌, OnOk, reverse};
+ghost use Rattle.std.specs.Prelude.{◌≡◌, ◌++◌, [], OnOk, reverse};
 ghost use Rattle.std.specs.List.{flat_map};
 ghost use Rattle.std.specs.Option.{option_copied, option_map_or};
 ghost use Rattle.mh_model.specs.State.{all};
@@ -126,8 +126,15 @@ fn put_transition(text: &mut Text, transition: &Transition) -> Result<(), AllocE
 fn put_begun(text: &mut Text) -> Result<(), AllocError>
     ensures { OnOk result (text.new ≡ text.old ++ spec.begun_line) }
 {
-    text.put(b"transition begun")?;
+    text.put(begun_word())?;
     text.put(b"\n")
+}
+
+#[tactic(auto, unfolding(crate::specs::State::begun_word))]
+fn begun_word() -> &'static [u8]
+    ensures { result.now ≡ spec.begun_word }
+{
+    b"transition begun"
 }
 
 fn put_interaction(text: &mut Text, begun: Option<&Interaction>) -> Result<(), AllocError>
