@@ -4,4 +4,3 @@ pub mod SafeEngine
 pub mod StartLemmas
 pub mod ReceiverLemmas
 pub mod BesideLemmas
-pub mod SealedLemmas

@@ -3,4 +3,3 @@ pub mod Beside
 pub mod Lent
 pub mod Play
 pub mod Told
-pub mod Sealed
