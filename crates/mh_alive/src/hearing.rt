@@ -13,7 +13,7 @@ ghost use Rattle.mh_alive.specs.Timers.{timers_with as timers_with_lem};
 use crate::references::put;
 use crate::registers::{Register, is_let};
 use crate::sendings::Sending;
-use crate::set_timers::{Timers, timers_with};
+use crate::set_timers::{TimerTable, timers_with};
 use crate::settings::Setting;
 use crate::tellings::SetTimer;
 use indexmap::IndexSet;
@@ -30,7 +30,7 @@ use std::marker::Model;
 struct Ears<'a> {
     sent: &'a IndexSet<Sending>,
     registers: &'a IndexSet<Register>,
-    timers: Timers,
+    timers: TimerTable,
 }
 
 impl<'a> Model for Ears<'a> {
@@ -206,7 +206,11 @@ fn outer(
 }
 
 /// These timers and further ones.
-fn with_timers(alloc: Global, timers: Timers, further: Vec<SetTimer>) -> Result<Timers, AllocError>
+fn with_timers(
+    alloc: Global,
+    timers: TimerTable,
+    further: Vec<SetTimer>,
+) -> Result<TimerTable, AllocError>
     ensures { IfOk result (λ more. more ≡ timers_with_lem (insert_all same_timer timers.set further.items)) }
 {
     let mut set = timers.set;

@@ -11,7 +11,7 @@ ghost use Rattle.mh_alive.specs.Tellings.{same_telling, telling as telling_lem};
 ghost use Rattle.mh_alive.specs.Timers.{is_timed};
 
 use crate::references::put;
-use crate::set_timers::{Timers, timers_with};
+use crate::set_timers::{TimerTable, timers_with};
 use crate::tellings::{SetTimer, Telling, one_telling};
 use indexmap::IndexSet;
 use mh_base::{EventType, ObjRef, Value};
@@ -26,7 +26,7 @@ use std::marker::Model;
 #[derive(Drop)]
 pub(crate) struct Web {
     pub told: IndexSet<Telling>,
-    pub timers: Timers,
+    pub timers: TimerTable,
 }
 
 impl Model for Web {

@@ -16,12 +16,12 @@ use std::marker::Model;
 
 /// The timers, and the groups that have one.
 #[derive(Drop)]
-pub(crate) struct Timers {
+pub(crate) struct TimerTable {
     pub set: IndexSet<SetTimer>,
     pub groups: IndexSet<ObjRef>,
 }
 
-impl Model for Timers {
+impl Model for TimerTable {
     ghost use Rattle.mh_alive.specs.Timers.{Timers as TimersValue};
 
     ghost Value = { TimersValue };
@@ -30,11 +30,11 @@ impl Model for Timers {
 }
 
 /// These timers, with their groups.
-pub(crate) fn timers_with(alloc: Global, set: IndexSet<SetTimer>) -> Result<Timers, AllocError>
+pub(crate) fn timers_with(alloc: Global, set: IndexSet<SetTimer>) -> Result<TimerTable, AllocError>
     ensures { IfOk result (λ timers. timers ≡ spec.timers_with set.keys) }
 {
     let groups = groups(alloc, set.as_slice())?;
-    Ok(Timers { set, groups })
+    Ok(TimerTable { set, groups })
 }
 
 /// The groups that have one of these timers.
@@ -48,7 +48,7 @@ fn groups(alloc: Global, timers: &[SetTimer]) -> Result<IndexSet<ObjRef>, AllocE
     Ok(groups)
 }
 
-impl Timers {
+impl TimerTable {
     fn has(&self, at: &ObjRef, id: i32) -> Result<bool, AllocError>
         ensures { IfOk result (λ timed. timed ≡ spec.is_timed self.now at.now (Some (Value.Int id))) }
     {

@@ -5,7 +5,7 @@ pub(crate) mod answering;
 pub(crate) mod calling;
 pub(crate) mod exchanging;
 pub(crate) mod focus;
-pub(crate) mod lives;
+pub(crate) mod lifecycle;
 pub(crate) mod loading;
 pub(crate) mod transitions;
 pub(crate) mod widgets;

@@ -9,7 +9,7 @@ ghost use Rattle.mh_layers.specs.CostNodes.{every_timer};
 ghost use Rattle.mh_layers.specs.Reading.{same_setting};
 
 use crate::numbered::settings::{each_once, held_in_each};
-use crate::numbered::timers::Timers;
+use crate::numbered::timers::TimerSet;
 use indexmap::IndexSet;
 use mh_base::both;
 use mh_flow::{Equipped, Flow, Held};
@@ -28,7 +28,7 @@ pub(crate) struct Configs {
 pub(crate) struct Reached {
     pub configs: Configs,
     pub held: Vec<Held>,
-    pub timers: Timers,
+    pub timers: TimerSet,
 }
 
 /// The configurations that are reached.
@@ -54,7 +54,7 @@ impl Reached {
         let configs = configs_of(alloc, flow)?;
         let held = held_in_each(alloc, service, flow, configs.once.as_slice());
         let (configs, held) = both(Ok(configs), held)?;
-        let timers = Timers::of(alloc, service, flow, &configs.all, &configs.once, &held);
+        let timers = TimerSet::of(alloc, service, flow, &configs.all, &configs.once, &held);
         let ((configs, held), timers) = both(Ok((configs, held)), timers)?;
         Ok(Reached {
             configs,

@@ -1,4 +1,4 @@
-//! `Timers`: the timers that can be set.
+//! `TimerSet`: the timers that can be set.
 //!
 //! Promise: each that an active action of a reached configuration sets is there once, from the last on.
 ghost use Rattle.std.specs.Prelude.{◌≡◌, ◌∷◌, ◌++◌, [], map, position, slice_get, option_and_then, reverse, IfOk, OnOk};
@@ -204,11 +204,11 @@ fn each_once(alloc: Global, timers: &[SetTimer]) -> Result<IndexSet<SetTimer>, A
 
 /// Timers, each once. A contract sees the list of them.
 #[derive(Drop)]
-pub(crate) struct Timers {
+pub(crate) struct TimerSet {
     set: IndexSet<SetTimer>,
 }
 
-impl Model for Timers {
+impl Model for TimerSet {
     ghost use Rattle.std.specs.Prelude.{List};
     ghost use Rattle.mh_laws.specs.Costs.{TimerKey};
 
@@ -217,7 +217,7 @@ impl Model for Timers {
     ghost view = { λ t. t.set.keys };
 }
 
-impl Timers {
+impl TimerSet {
     /// The timers that can be set in the configurations that are reached, where these are known and hold these.
     pub fn of(
         alloc: Global,
@@ -226,7 +226,7 @@ impl Timers {
         all: &[Config],
         known: &IndexSet<Config>,
         held: &[Held],
-    ) -> Result<Timers, AllocError>
+    ) -> Result<TimerSet, AllocError>
         requires flow { IsFlowOf service.now flow.now }
         requires all { all.now ≡ (flow_in service.now flow.now).configs }
         requires known { known.now.keys ≡ insert_all same_setting [] all.now }
@@ -236,7 +236,7 @@ impl Timers {
         let mut timers = set_timers(alloc, service, flow, all, known, held)?;
         timers.reverse();
         let set = each_once(alloc, timers.as_slice())?;
-        Ok(Timers { set })
+        Ok(TimerSet { set })
     }
 
     pub fn as_slice(&self) -> &[SetTimer]

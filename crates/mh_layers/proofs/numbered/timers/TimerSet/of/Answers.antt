@@ -5,7 +5,7 @@ use Rattle.mh_model.specs.declared.config.Config.{Config}
 use Rattle.mh_laws.specs.Costs.{TimerKey, same_timer}
 use Rattle.mh_flow.specs.Solved.{flow_in}
 use Rattle.mh_layers.specs.SetTimers.{set_in}
-use Rattle.mh_layers.proofs.numbered.timers.Timers.of.Goals as goal
+use Rattle.mh_layers.proofs.numbered.timers.TimerSet.of.Goals as goal
 
 pub returns : goal.returns
 returns c =
