@@ -17,4 +17,5 @@ pub mod Commands
 pub mod Trace
 pub mod Cover
 pub mod Run
+pub mod Lent
 pub mod Nothing

@@ -2,6 +2,7 @@
 
 pub(crate) mod calls;
 pub(crate) mod commands;
+pub(crate) mod picture;
 pub(crate) mod places;
 pub(crate) mod stepping;
 pub(crate) mod until;
