@@ -106,11 +106,16 @@ def bash_places(command):
     return rows
 
 
+def commands_of(program):
+    """The names of the commands, with `help`, which a program has that has others."""
+    return [it.name() for it in program.commands] + (["help"] if program.commands else [])
+
+
 def bash(program):
-    commands = " ".join([it.name() for it in program.commands] + ["help"])
+    commands = " ".join(commands_of(program))
     values = [f"{name}) values={len(kinds)} taken={quoted(kinds[0])} ;;" for name, kinds in options_with_values(program).items()]
     options = [("''", program.options)] + [(it.name(), it.options) for it in program.commands]
-    places = [(":0", commands), ("help:0", commands)] + [row for it in program.commands for row in bash_places(it)]
+    places = [(head, commands) for head in (":0", "help:0") if commands] + [row for it in program.commands for row in bash_places(it)]
     return BASH.format(
         name=program.name(),
         values="\n".join(" " * 12 + it for it in values),
@@ -145,7 +150,18 @@ def zsh_arguments(command):
     return words
 
 
+def zsh_plain(program):
+    """The function of a program without commands."""
+    name = program.name()
+    lines = [f"#compdef {name}", f"# Completes {name} in zsh. Made by dist/pages of what {name} --help prints.", f"_{name}() {{"]
+    lines += ["    _arguments \\", *[f"        {zsh_option(it)} \\" for it in program.options]]
+    lines += [f"        {it} \\" for it in zsh_arguments(program)] + ["        && return 0", "    return 1", "}", f'_{name} "$@"']
+    return "\n".join(lines) + "\n"
+
+
 def zsh(program):
+    if not program.commands:
+        return zsh_plain(program)
     name = program.name()
     listed = [(it.name(), brief(it.about)) for it in program.commands] + [("help", "Print this message or the help of the given subcommand(s)")]
     lines = [f"#compdef {name}", f"# Completes {name} in zsh. Made by dist/pages of what {name} --help prints.", f"_{name}() {{"]
@@ -183,7 +199,8 @@ def fish(program):
     for it in program.commands:
         add("__fish_use_subcommand", f"-a {it.name()}", it.about)
         add("__fish_seen_subcommand_from help", f"-a {it.name()}", it.about)
-    add("__fish_use_subcommand", "-a help", "Print this message or the help of the given subcommand(s)")
+    if program.commands:
+        add("__fish_use_subcommand", "-a help", "Print this message or the help of the given subcommand(s)")
     for command in program.commands:
         when = f"__fish_seen_subcommand_from {command.name()}; and not __fish_seen_subcommand_from help"
         for it in command.options:

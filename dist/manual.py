@@ -102,27 +102,30 @@ def statuses(program, known):
 
 
 def examples(program):
+    told = [it for command in program.commands for it in command.blocks if it.is_example()]
+    if not told:
+        return []
     lines = [".SH EXAMPLES", "The folder", "\\fIexamples\\fR", "stands beside the documents, in a Debian package in", f"\\fI{FOLDER}\\fR."]
-    for command in program.commands:
-        for it in command.blocks:
-            if it.is_example():
-                lines += rows_of(it.rows)
-    return lines
+    return lines + [line for it in told for line in rows_of(it.rows)]
+
+
+def commands(program):
+    lines = [line for it in program.commands for line in section(it)]
+    return [".SH COMMANDS", *lines] if lines else []
 
 
 def page(program, others, known, version, date):
-    """The page of a program; `others` are the names of the pages beside it, `known` its exit statuses where its help has none."""
+    """The page of a program, with its commands if it has any; `others` are the names of the pages beside it, `known` its exit statuses where its help has none."""
     name = program.name()
     about = program.about[0].lower() + program.about[1:]
     lines = [f'.\\" Made by dist/pages of what {name} --help prints.']
     lines += [f'.TH {name.upper()} 1 "{date}" "redplay {version}" "User commands"']
     lines += [".SH NAME", f"{name} \\- {running(about)}", ".SH SYNOPSIS", ".nf"]
-    lines += [usage_line(it.usage, it.words) for it in program.commands]
+    lines += [usage_line(it.usage, it.words) for it in program.commands or [program]]
     lines += [".fi", ".SH DESCRIPTION", *sentences(program.about + ".")]
-    lines += sentences(f"`{name} help COMMAND` prints what is told of a command below.")
-    lines += [".SH OPTIONS", *entries(program), ".SH COMMANDS"]
-    for it in program.commands:
-        lines += section(it)
+    if program.commands:
+        lines += sentences(f"`{name} help COMMAND` prints what is told of a command below.")
+    lines += [".SH OPTIONS", *entries(program), *commands(program)]
     for it in program.blocks:
         if not it.is_example() and not it.is_status():
             lines += block(it)

@@ -90,6 +90,11 @@ enum {
     REDPLAY_NOT_LATE = 57,        /* no file of this scene is awaited: it was not named as late, or it was posted already */
     REDPLAY_SCENE_DIFFERS = 58,   /* the scene is another one than that of the service */
 
+    REDPLAY_NO_SEAL = 70,         /* the bytes are no seal */
+    REDPLAY_OTHER_SEAL = 71,      /* the seal is of another version of its notation */
+    REDPLAY_NOT_HERE = 72,        /* the file of a group is not there that the seal tells to be here from the start */
+    REDPLAY_OTHER_TAGS = 73,      /* the seal tells of a file of tags, and the library has those of the profile alone */
+
     REDPLAY_NO_MEMORY = 100,      /* memory was refused */
     REDPLAY_NO_SESSION = 101,     /* the handle has no session: it was not started, or it was freed */
     REDPLAY_UNACCEPTED = 102,     /* the verifier does not accept the service */
@@ -180,6 +185,20 @@ uint32_t redplay_check(const redplay_source *files, size_t files_length, const u
 uint32_t redplay_start(redplay *handle, const redplay_source *files, size_t files_length, const uint8_t *start,
                        size_t start_length, const uint8_t *late, size_t late_length, uint32_t day, bool lenient);
 
+/* Starts a session by the seal of a service (the text that `redplay seal` prints), with the files that are there: those of the
+   groups which the seal tells to be here from the start have to be among them, and the content files that it names may be; of
+   other files nothing is looked at. Late scenes are brought by redplay_scene() when they are there, and no verifier is asked. The
+   seal is believed: by that of an accepted service the session meets no fault, takes no more steps than redplay_counts() has as
+   the budget, and shows what the whole service shows, unless two groups have one digest (SHA-256). By a wrong one it stays safe:
+   an action that cannot be done is skipped and noted, and bounds and budget say nothing, so let a turn make so many steps at most.
+   Who signs a seal, and how, is the broadcaster's: it is signed as a text, of which a seal has exactly one.
+   What it answers, the first of these that applies, want of memory aside: REDPLAY_IN_USE; REDPLAY_OUT_OF_RANGE for the day;
+   REDPLAY_NO_SEAL, REDPLAY_OTHER_SEAL; REDPLAY_NO_PATH; REDPLAY_OTHER_TAGS; 1 to 24, the file of a group that is here cannot be
+   read; REDPLAY_NOT_HERE and REDPLAY_SCENE_DIFFERS, the file of such a group is not there or is not the sealed one; 30 to 35, the
+   groups make no service; REDPLAY_FILE_TOO_LARGE and REDPLAY_TOO_MANY_FILES, of the content files. */
+uint32_t redplay_start_sealed(redplay *handle, const uint8_t *seal, size_t seal_length, const redplay_source *files,
+                              size_t files_length, uint32_t day);
+
 /* Writes the bounds of the service that is played. Takes no memory. */
 uint32_t redplay_bounds(const redplay *handle, redplay_limits *limits);
 
@@ -206,7 +225,8 @@ uint32_t redplay_event(redplay *handle, int32_t number);
 uint32_t redplay_file(redplay *handle, const uint8_t *name, size_t name_length, const uint8_t *content, size_t content_length);
 
 /* The file of a late scene is there, in either notation: REDPLAY_NO_PATH; 1 to 24, it cannot be read; 52, 57, 58, 51. It has to
-   be the scene that the session was started with, white space and notation aside. */
+   be the scene that the session was started with, white space and notation aside; by a seal the one of which the seal has the
+   digest. */
 uint32_t redplay_scene(redplay *handle, const uint8_t *name, size_t name_length, const uint8_t *content, size_t content_length);
 
 /* ---- Steps, and what comes of them -------------------------------------------------------------------------------------- */
@@ -227,6 +247,11 @@ uint32_t redplay_counts(const redplay *handle, redplay_totals *totals);
    action, and the reference that is wrong. The first fault is 0, the last one redplay_counts()'s `faults` less 1;
    REDPLAY_OUT_OF_RANGE where there are fewer. A service that the verifier accepted has none. */
 uint32_t redplay_fault(const redplay *handle, size_t at, uint8_t *text, size_t text_length, size_t *length);
+
+/* Writes what is waited for, a line each with a line feed behind it: first `scene NAME`, if a transition waits for the file of that
+   late scene, then `file NAME` for each content file that an object waits for. Let the filter of a carousel fetch these first. The
+   length is 0 where nothing is; where it is larger than the room, lend more and ask again. */
+uint32_t redplay_awaited(const redplay *handle, uint8_t *text, size_t text_length, size_t *length);
 
 /* Writes which rows differ from the picture of the last call, a bit a row, the top row the lowest; the picture that is shown
    now is what the next call compares with. Takes no memory. */

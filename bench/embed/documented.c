@@ -1,8 +1,10 @@
 /* The functions of docs/EMBEDDING_C.md, as they stand there, with what a receiver has besides: bench/embed/run puts the blocks into
-   files of these names. A box is played through a stall, a full queue and a full clock. */
+   files of these names. A box is played through a stall, a full queue and a full clock; what goes by a seal is asked for one of
+   another version alone. */
 #include "../../include/redplay.h"
 #include "services.h"
 #include <stdio.h>
+#include <string.h>
 
 /* Milliseconds behind each turn: a frame, a stall, most of what a clock can count, and what is too much for it; again, to the end. */
 static const uint32_t turns[] = {20, 130000, 4294000000u, 2000000, 20, 4294000000u, 2000000};
@@ -32,6 +34,14 @@ static bool start_service(redplay *session) {
 #include "explain.h"
 #include "loop.h"
 #include "play.h"
+#include "sealed.h"
+
+bool next_brought(brought *item) {
+    (void)item;
+    return false;
+}
+
+void fetch_first(const uint8_t *name, size_t length) { printf("documented: fetch %.*s\n", (int)length, (const char *)name); }
 
 int main(void) {
     const redplay_source broken[1] = {SOURCE("a", "{:Applicatoin")};
@@ -39,6 +49,8 @@ int main(void) {
     explain(broken, 1, broken[0].name, 1);
     if (start_service(&session)) return 1;
     play(&session);
+    const char *other = "redplay seal 2\n";
+    if (play_sealed((const uint8_t *)other, strlen(other), plain, 4, 60000) != REDPLAY_OTHER_SEAL) return 1;
     printf("documented: %u turns, %u starts, %s\n", turned, started - 1, drawn ? "drawn" : "not drawn");
     return 0;
 }

@@ -1,6 +1,7 @@
 /*
  * player [--late FILE] [--lenient] FOLDER SCRIPT [START]: plays a script on the service of a folder, and prints what
- * `redplay play` prints of it. With --check in the place of a script: what `redplay check` prints. Its exit status is theirs:
+ * `redplay play` prints of it. With --sealed FILE by the seal in it, with those files of the folder that it tells to be here, and
+ * no verdict. With --check in the place of a script: what `redplay check` prints. Its exit status is theirs:
  * 1 a refused service, 2 what cannot be read, 3 faults.
  *
  * The commands of the script: run, step N, show, key NAME, tick N, stream N, engine N, file NAME HEX, scene NAME, scene NAME
@@ -251,18 +252,19 @@ static int play(redplay *session, const folder *all, char *script) {
 
 /* ---- The whole ---- */
 
-typedef struct { const char *folder, *script, *start, *late; bool lenient; } choices;
+typedef struct { const char *folder, *script, *start, *late, *sealed; bool lenient; } choices;
 
 static choices chosen(int count, char **words) {
-    choices made = {NULL, NULL, "a", NULL, false};
+    choices made = {NULL, NULL, "a", NULL, NULL, false};
     for (int at = 1; at < count; at++) {
         if (!strcmp(words[at], "--lenient")) made.lenient = true;
         else if (!strcmp(words[at], "--late") && at + 1 < count) made.late = words[++at];
+        else if (!strcmp(words[at], "--sealed") && at + 1 < count) made.sealed = words[++at];
         else if (!made.folder) made.folder = words[at];
         else if (!made.script) made.script = words[at];
         else made.start = words[at];
     }
-    if (!made.script) fail("usage:", "player [--late FILE] [--lenient] FOLDER SCRIPT [START], or FOLDER --check [START]");
+    if (!made.script) fail("usage:", "player [--late FILE] [--lenient] [--sealed FILE] FOLDER SCRIPT [START], or FOLDER --check [START]");
     return made;
 }
 
@@ -285,6 +287,28 @@ static void put_why(uint32_t number) {
     fprintf(stderr, "player: not started: %.*s (%" PRIu32 ")\n", (int)length, (const char *)text, number);
 }
 
+/* Plays the script of a session, ends it, and answers the exit status. */
+static int play_out(redplay *session, const choices *made, const folder *all) {
+    size_t length;
+    uint8_t *script = read_whole(made->script, &length);
+    int status = play(session, all, (char *)script);
+    redplay_free(session);
+    free(script);
+    return status;
+}
+
+/* Plays by a seal, or says why there is no session, and answers the exit status. */
+static int start_sealed(const choices *made, const folder *all) {
+    size_t length;
+    uint8_t *seal = read_whole(made->sealed, &length);
+    redplay session = REDPLAY_NONE;
+    uint32_t answer = redplay_start_sealed(&session, seal, length, all->files, all->count, 60000);
+    free(seal);
+    if (answer == REDPLAY_GOOD) return play_out(&session, made, all);
+    put_why(answer);
+    return 2;
+}
+
 /* Plays the script, or says why there is no session, and answers the exit status. */
 static int start(const choices *made, const folder *all, const uint8_t *late, size_t late_length) {
     const uint8_t *name = (const uint8_t *)made->start;
@@ -292,16 +316,9 @@ static int start(const choices *made, const folder *all, const uint8_t *late, si
     redplay session = REDPLAY_NONE;
     uint32_t answer = redplay_start(&session, all->files, all->count, name, strlen(made->start), late, late_length, 60000,
                                     made->lenient);
-    if (answer != REDPLAY_GOOD) {
-        put_why(answer);
-        return check(all, name, late, late_length) == 1 ? 1 : 2;
-    }
-    size_t length;
-    uint8_t *script = read_whole(made->script, &length);
-    int status = play(&session, all, (char *)script);
-    redplay_free(&session);
-    free(script);
-    return status;
+    if (answer == REDPLAY_GOOD) return play_out(&session, made, all);
+    put_why(answer);
+    return check(all, name, late, late_length) == 1 ? 1 : 2;
 }
 
 int main(int count, char **words) {
@@ -311,7 +328,7 @@ int main(int count, char **words) {
     if (!all.count) fail("no files in", made.folder);
     size_t late_length = 0;
     uint8_t *late = made.late ? read_whole(made.late, &late_length) : NULL;
-    int status = start(&made, &all, late, late_length);
+    int status = made.sealed ? start_sealed(&made, &all) : start(&made, &all, late, late_length);
     free(late);
     let_go(&all);
     return status;

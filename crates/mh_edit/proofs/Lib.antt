@@ -1,2 +1,9 @@
 mod NumberLemmas
 mod WordLemmas
+mod WordLines
+mod LineLemmas
+mod CommentLemmas
+mod LayoutLemmas
+mod LayoutLaw
+mod PlaceLemmas
+mod RenumberLaw

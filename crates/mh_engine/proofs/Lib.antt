@@ -4,3 +4,5 @@ pub mod SafeEngine
 pub mod StartLemmas
 pub mod ReceiverLemmas
 pub mod BesideLemmas
+pub mod SealedLemmas
+pub mod SealedStartLemmas

@@ -3,3 +3,6 @@ pub mod Beside
 pub mod Lent
 pub mod Play
 pub mod Told
+pub mod Sealed
+pub mod SealedLaw
+pub mod Posts

@@ -12,9 +12,11 @@ pub mod receiver;
 pub mod refusal;
 mod running;
 pub mod runs;
+pub mod sealed;
 
 pub use engine::Engine;
 pub use mh_machine::{Refused, RefusedFile, RefusedWhy, Rest, StepError, Stepped, Unstarted};
 pub use receiver::{Receiver, Unequipped, Unready};
 pub use refusal::{RunEnd, StartError, Unaccepted};
 pub use runs::run;
+pub use sealed::{SealedEngine, Unsealed};

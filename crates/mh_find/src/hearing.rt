@@ -1,7 +1,6 @@
 //! Which inputs something listens for, in the state of a trial.
 use crate::links::{Wanted, awaited_by, source_of, wanted_by};
 use crate::stimulus::Stimulus;
-use crate::trial::Trial;
 use mh_base::{EventType, GroupName, ObjRef};
 use mh_group::Class;
 use mh_machine::{Machine, register_of};
@@ -15,11 +14,14 @@ const MOST_TICKS: usize = 4;
 /// A number for a link that waits for an event whatever its data are.
 const ANY_NUMBER: i32 = 1;
 
-/// The inputs for which something listens where the trial has come to, each once.
-pub fn heard(alloc: Global, trial: &Trial) -> Result<Vec<Stimulus>, AllocError> {
+/// The inputs for which something listens where the machine of a trial has come to, with these timers, each once.
+pub fn heard(
+    alloc: Global,
+    machine: &Machine,
+    timers: &[Timer],
+) -> Result<Vec<Stimulus>, AllocError> {
     let mut found = Vec::new(alloc);
-    let machine = trial.machine();
-    push_ticks(&mut found, machine.moments().present, trial.timers())?;
+    push_ticks(&mut found, machine.moments().present, timers)?;
     push_scene(&mut found, machine)?;
     push_pressed(&mut found, machine)?;
     let keys = keys_heard(machine)?;

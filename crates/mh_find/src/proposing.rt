@@ -1,64 +1,48 @@
 //! The search itself.
-use crate::attempt::Beginning;
+use crate::attempt::Question;
 use crate::search::Search;
 use crate::stimulus::Stimulus;
-use crate::within::Within;
-use mh_base::GroupName;
-use mh_codec::TagTable;
-use mh_model::File;
+use crate::watcher::Watcher;
 use mh_told::text::Text;
 use std::alloc::{AllocError, Global};
 
-/// A script that leads to a fault the service of these files, which begins with the group that `start` names, and in
-/// which the scenes come late that `late` names, a name a line; none if the search finds none, or if the files make
-/// no service. `tags` has the tags of the binary notation, and the content files are there from the start. It is to
-/// be played before it is believed.
-pub fn proposal<'a>(
-    alloc: Global,
-    tags: &'a TagTable,
-    files: &'a [(GroupName, Vec<u8>)],
-    start: &'a [u8],
-    late: Option<&'a [u8]>,
-    contents: &'a [File],
-    mjd: u32,
-    within: Within,
+/// A script that leads the service to the goal; none if the search finds none, or if the files make no service. It is to
+/// be played before it is believed. The watcher is told of each play.
+pub fn proposal<W: Watcher>(
+    question: &Question<'_>,
+    watcher: &mut W,
 ) -> Result<Option<Text>, AllocError> {
-    let beginning = Beginning {
-        alloc,
-        tags,
-        files,
-        start,
-        late,
-        contents,
-        mjd,
-        steps: within.steps,
-    };
-    match found(&beginning, within)? {
-        Some(script) => shortened(&beginning, script),
+    match found(question, watcher)? {
+        Some(script) => shortened(question, script),
         None => Ok(None),
     }
 }
 
-/// A script that leads to a fault, if one is found.
-fn found(beginning: &Beginning, within: Within) -> Result<Option<Vec<Stimulus>>, AllocError> {
-    let mut search = Search::new(beginning.alloc, within);
-    found_by(&mut search, beginning, within.plays)
+/// A script that leads to the goal, if one is found.
+fn found<W: Watcher>(
+    question: &Question<'_>,
+    watcher: &mut W,
+) -> Result<Option<Vec<Stimulus>>, AllocError> {
+    let mut search = Search::new(question.alloc, question.within);
+    found_by(&mut search, question, question.within.plays, watcher)
 }
 
-/// The first script that leads to a fault, of so many that the search goes through.
-fn found_by(
+/// The first script that leads to the goal, of so many that the search goes through.
+fn found_by<W: Watcher>(
     search: &mut Search,
-    beginning: &Beginning,
+    question: &Question<'_>,
     plays: u32,
+    watcher: &mut W,
 ) -> Result<Option<Vec<Stimulus>>, AllocError> {
-    for _ in 0..plays {
+    for play in 0..plays {
         let Some(script) = search.next_script()? else {
             return Ok(None);
         };
-        let Some(outcome) = beginning.outcome(script.as_slice())? else {
+        watcher.tell(play, script.len());
+        let Some(outcome) = question.outcome(script.as_slice())? else {
             return Ok(None);
         };
-        if outcome.has_fault {
+        if outcome.is_led {
             return Ok(Some(script));
         }
         search.note(script, outcome)?;
@@ -66,16 +50,16 @@ fn found_by(
     Ok(None)
 }
 
-/// The script without the inputs that the fault does not want.
-fn shortened(beginning: &Beginning, script: Vec<Stimulus>) -> Result<Option<Text>, AllocError> {
+/// The script without the inputs that the goal does not want.
+fn shortened(question: &Question<'_>, script: Vec<Stimulus>) -> Result<Option<Text>, AllocError> {
     let mut script = script;
     for place in (0..script.len()).rev() {
-        let shorter = without(beginning.alloc, script.as_slice(), place)?;
-        if faults(beginning, shorter.as_slice())? {
+        let shorter = without(question.alloc, script.as_slice(), place)?;
+        if leads(question, shorter.as_slice())? {
             script = shorter;
         }
     }
-    beginning.text(script.as_slice())
+    question.text(script.as_slice())
 }
 
 /// The script without the input at this place.
@@ -89,9 +73,9 @@ fn without(alloc: Global, script: &[Stimulus], place: usize) -> Result<Vec<Stimu
     Ok(shorter)
 }
 
-fn faults(beginning: &Beginning, script: &[Stimulus]) -> Result<bool, AllocError> {
-    match beginning.outcome(script)? {
-        Some(outcome) => Ok(outcome.has_fault),
+fn leads(question: &Question<'_>, script: &[Stimulus]) -> Result<bool, AllocError> {
+    match question.outcome(script)? {
+        Some(outcome) => Ok(outcome.is_led),
         None => Ok(false),
     }
 }

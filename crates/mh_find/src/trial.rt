@@ -1,9 +1,9 @@
 //! `Trial`: a machine on which a script is tried.
+use crate::goal::Goal;
 use crate::links::hears_timers;
 use crate::script_text::{Running, script_text};
 use crate::stimulus::{Stimulus, input_of};
-use crate::timing::Timing;
-use mh_machine::{Judged, Machine, RefusedWhy, Rest, StepError};
+use mh_machine::{Judged, Machine, RefusedWhy, Rest};
 use mh_model::{File, Input, Timer};
 use mh_script::RUN_LIMIT;
 use mh_service::Service;
@@ -15,9 +15,8 @@ use std::alloc::{AllocError, Global};
 pub struct Trial {
     alloc: Global,
     machine: Machine,
-    timing: Timing,
-    /// Whether a link of the service waits for a timer, so that timers are worth following.
-    timed: bool,
+    /// Whether a link of the service waits for a timer, so that timers matter.
+    is_timed: bool,
     /// Whether each run so far has come to its end.
     settled: bool,
 }
@@ -32,12 +31,11 @@ impl Trial {
     }
 
     fn new(alloc: Global, machine: Machine) -> Trial {
-        let timed = hears_timers(machine.service());
+        let is_timed = hears_timers(machine.service());
         Trial {
             alloc,
             machine,
-            timing: Timing::new(alloc),
-            timed,
+            is_timed,
             settled: true,
         }
     }
@@ -46,14 +44,18 @@ impl Trial {
         &self.machine
     }
 
-    /// The timers that are set, as far as they matter to the service.
-    pub fn timers(&self) -> &[Timer] {
-        self.timing.timers()
+    /// The timers that are set, in the order in which they are due, as far as they matter to the service.
+    pub fn timers(&self) -> Result<Vec<Timer>, AllocError> {
+        if self.is_timed {
+            self.machine.timers()
+        } else {
+            Ok(Vec::new(self.alloc))
+        }
     }
 
-    /// Whether a fault was met.
-    pub fn has_fault(&self) -> bool {
-        !self.machine.faults().is_empty()
+    /// Whether it is where a script is to lead.
+    pub fn is_led(&mut self, goal: &Goal) -> bool {
+        goal.is_reached(&mut self.machine)
     }
 
     /// Whether a further input is taken: the application has not quit, and the last run has come to its end or has
@@ -104,34 +106,11 @@ impl Trial {
 
     /// Makes so many steps, or as many as there are to make.
     fn run(&mut self, most: u32) -> Result<(), AllocError> {
-        if self.timed {
-            self.run_watched(most)?;
-        } else {
-            advance(&mut self.machine, most)?;
-        }
+        advance(&mut self.machine, most)?;
         if !self.machine.is_settled() {
             self.settled = false;
         }
         Ok(())
-    }
-
-    /// The same, with a look at each step.
-    fn run_watched(&mut self, most: u32) -> Result<(), AllocError> {
-        for _ in 0..most {
-            if !self.step()? {
-                return Ok(());
-            }
-        }
-        Ok(())
-    }
-
-    /// Makes a step, if there is one to make. Whether it did.
-    fn step(&mut self) -> Result<bool, AllocError> {
-        if self.machine.is_settled() {
-            return Ok(false);
-        }
-        self.timing.note(&self.machine)?;
-        step_once(&mut self.machine)
     }
 }
 
@@ -160,13 +139,4 @@ fn pass_over(why: RefusedWhy) -> Result<(), AllocError> {
 
 fn advance(machine: &mut Machine, most: u32) -> Result<(), AllocError> {
     machine.advance::<Judged>(most)
-}
-
-/// Makes a step, if it can be counted. Whether it did.
-fn step_once(machine: &mut Machine) -> Result<bool, AllocError> {
-    match machine.step::<Judged>() {
-        Ok(_) => Ok(true),
-        Err(StepError::NoMemory) => Err(AllocError),
-        Err(StepError::CountFull) => Ok(false),
-    }
 }

@@ -3,7 +3,6 @@
 //! Left out is what nothing that comes later can ask for: the display stack, colours, drawings, locks, faults and the
 //! clock, of which only what timers have left counts.
 use crate::digest::Digest;
-use crate::trial::Trial;
 use mh_base::{ObjRef, Value};
 use mh_group::Attribute;
 use mh_group::attribute::ALL;
@@ -20,12 +19,12 @@ pub struct View {
     pub whole: u64,
 }
 
-/// The state of a trial.
-pub fn view_of(trial: &Trial) -> View {
+/// The state of the machine of a trial, with these timers.
+pub fn view_of(machine: &Machine, timers: &[Timer]) -> View {
     let mut digest = Digest::new();
-    put_outline(&mut digest, trial);
+    put_outline(&mut digest, machine, timers);
     let outline = digest.word();
-    put_rest(&mut digest, trial);
+    put_rest(&mut digest, machine, timers);
     View {
         outline,
         whole: digest.word(),
@@ -33,17 +32,17 @@ pub fn view_of(trial: &Trial) -> View {
 }
 
 /// Where it is, what runs, and what is referred to.
-fn put_outline(digest: &mut Digest, trial: &Trial) {
-    put_place(digest, trial.machine());
-    put_timers(digest, trial.timers());
-    put_lives(digest, trial.machine().objects());
+fn put_outline(digest: &mut Digest, machine: &Machine, timers: &[Timer]) {
+    put_place(digest, machine);
+    put_timers(digest, timers);
+    put_lives(digest, machine.objects());
 }
 
 /// What else is told apart.
-fn put_rest(digest: &mut Digest, trial: &Trial) {
-    put_moments(digest, present(trial.machine()), trial.timers());
-    digest.put(trial.machine().queue().len() as u64);
-    put_bodies(digest, trial.machine().objects());
+fn put_rest(digest: &mut Digest, machine: &Machine, timers: &[Timer]) {
+    put_moments(digest, present(machine), timers);
+    digest.put(machine.queue().len() as u64);
+    put_bodies(digest, machine.objects());
 }
 
 /// The moment at which the machine stands, in milliseconds.

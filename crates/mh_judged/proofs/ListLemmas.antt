@@ -17,8 +17,7 @@ use Rattle.mh_verify.specs.declared.refusal.RefusalKind.TheVariants as kind
 use Rattle.mh_verify.specs.Free.{IsAcceptedBy, most_cost}
 use Rattle.mh_verify.specs.Order.{IsTold}
 use Rattle.mh_judged.specs.Accepted.{IsAcceptedList, IsList}
-use Rattle.mh_judged.specs.Judged.{IsListOf, IsServiceList}
-use Rattle.mh_judged.specs.Refusals.{refusal_finding}
+use Rattle.mh_judged.specs.Judged.{IsListBehind, IsListOf, IsServiceList}
 use Rattle.mh_judged.specs.Unread.{unread_findings}
 
 -- the flow by which a service is accepted is the one by which the list was made
@@ -40,19 +39,19 @@ kept_ok (Ok x) f h = f x h
 kept_ok (Err e) f h = h
 
 -- a refusal that is not for want of memory names what comes first
-pub refused_so : (q : Asked) (folder : List ℕ) (fs : List File) (start : List ℕ) (v : Service) (r : Refusal) (found : List Finding)
-    → IsTold v [] r → (r.kind ≡ kind.NoMemory → ⊥) → found ≡ refusal_finding folder fs start r ∷ [] → IsServiceList q v folder fs start found
-refused_so q folder fs start v r found (inl first) other list = IsServiceList.refused (record { refusal = r; names = first; list = list })
-refused_so q folder fs start v r found (inr same) other list = absurd (other (ap (λ (x : Refusal). x.kind) same))
+pub refused_so : (q : Asked) (most : ℕ) (folder : List ℕ) (fs : List File) (start : List ℕ) (v : Service) (r : Refusal) (found : List Finding)
+    → IsTold v [] r → (r.kind ≡ kind.NoMemory → ⊥) → IsListBehind most folder fs start r found → IsServiceList q most v folder fs start found
+refused_so q most folder fs start v r found (inl first) other list = IsServiceList.refused (record { refusal = r; names = first; list = list })
+refused_so q most folder fs start v r found (inr same) other list = absurd (other (ap (λ (x : Refusal). x.kind) same))
 
-pub accepted_so : (q : Asked) (folder : List ℕ) (fs : List File) (start : List ℕ) (v w : Service) (found : List Finding)
-    → w ≡ equipped v [] → IsAcceptedList q w folder fs found → IsServiceList q v folder fs start found
-accepted_so q folder fs start v w found same list = IsServiceList.accepted (subst (λ (x : Service). IsAcceptedList q x folder fs found) same list)
+pub accepted_so : (q : Asked) (most : ℕ) (folder : List ℕ) (fs : List File) (start : List ℕ) (v w : Service) (found : List Finding)
+    → w ≡ equipped v [] → IsAcceptedList q w folder fs found → IsServiceList q most v folder fs start found
+accepted_so q most folder fs start v w found same list = IsServiceList.accepted (subst (λ (x : Service). IsAcceptedList q x folder fs found) same list)
 
 -- what is not read is what the reading says
-pub unread_so : (q : Asked) (given folder : List ℕ) (fs : List File) (start : List ℕ) (why : Unplayable) (r : Result Service Unplayable) (found : List Finding)
-    → Fails why r → (why ≡ unplayable.NoMemory → ⊥) → found ≡ unread_findings given folder fs why → IsListOf q given folder fs start r found
-unread_so q given folder fs start why r found so other list = subst (λ (x : Result Service Unplayable). IsListOf q given folder fs start x found) (sym (error_so why r so other)) list
+pub unread_so : (q : Asked) (most : ℕ) (given folder : List ℕ) (fs : List File) (start : List ℕ) (why : Unplayable) (r : Result Service Unplayable) (found : List Finding)
+    → Fails why r → (why ≡ unplayable.NoMemory → ⊥) → found ≡ unread_findings given folder fs why → IsListOf q most given folder fs start r found
+unread_so q most given folder fs start why r found so other list = subst (λ (x : Result Service Unplayable). IsListOf q most given folder fs start x found) (sym (error_so why r so other)) list
   where
     error_so : (why : Unplayable) (r : Result Service Unplayable) → Fails why r → (why ≡ unplayable.NoMemory → ⊥) → r ≡ Err why
     error_so (unplayable.File name number offset) r so other = so

@@ -3,5 +3,6 @@ pub mod Advised
 pub mod Mistakes
 pub mod Unread
 pub mod Refusals
+pub mod Others
 pub mod Accepted
 pub mod Judged

@@ -1,5 +1,5 @@
 -- Where in the files of a folder something stands. A path is the folder, as the caller called it, and the file's path in it.
-use Rattle.std.specs.Prelude.{ℕ, ◌-◌, ◌==◌, Bool, false, if◌then◌else◌, List, [], ◌∷◌, ◌++◌, codes, drop, length, slice_get, Option, Some, None, option_map, option_and_then}
+use Rattle.std.specs.Prelude.{◌≡◌, ℕ, ◌-◌, ◌==◌, Bool, false, if◌then◌else◌, List, [], ◌∷◌, ◌++◌, codes, drop, length, slice_get, Option, Some, None, option_map, option_and_then}
 use Rattle.std.specs.Option.{option_map_or}
 use Rattle.std.specs.Str.Lossy.{utf8_lossy}
 use Rattle.mh_base.specs.declared.obj_ref.ObjRef.{ObjRef}
@@ -32,6 +32,10 @@ detail_span d bs m = rest_span bs m (detail_in d (drop m.start bs))
 -- this part of an action, or else the action; with the index 0, of the list of members
 unfoldable pub part_span : Place → Detail → List ℕ → Option Span
 part_span p d bs = option_map (detail_span d bs) (mark_of (marks bs) p.object p.index)
+
+-- these are the marks of the text
+abbrev pub IsMarked : List ℕ → List Mark → Type 0
+IsMarked bs ms = ms ≡ marks bs
 
 -- the action of an object with this number, from 1 on, or with 0 the object itself
 abbrev pub numbered_span : List File → ObjRef → ℕ → Option Span
@@ -70,6 +74,11 @@ numbered_site folder fs r index = site_at folder r.group (numbered_span fs r ind
 
 abbrev pub part_in : List File → Place → Detail → Option Span
 part_in fs p d = option_and_then (λ (f : File). part_span p d f.1.items) (file_of fs p.group)
+
+-- the same by the marks of the file
+abbrev pub part_by : Place → Detail → Option File → Option (List Mark) → Option Span
+part_by p d (Some f) (Some ms) = option_map (detail_span d f.1.items) (mark_of ms p.object p.index)
+part_by p d _ _ = None
 
 unfoldable pub part_site : List ℕ → List File → Place → Detail → Site
 part_site folder fs p d = site_at folder p.group (part_in fs p d)

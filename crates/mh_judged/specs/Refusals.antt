@@ -18,6 +18,7 @@ use Rattle.mh_told.specs.Reading.{Source as File}
 use Rattle.mh_verify.specs.Kinds.{kind_number}
 use Rattle.mh_verify.specs.declared.refusal.Place.{Place}
 use Rattle.mh_verify.specs.declared.refusal.Refusal.{Refusal}
+use Rattle.mh_verify.specs.declared.refusal.RefusalKind.{RefusalKind}
 use Rattle.mh_why.specs.Advice.{refusals}
 use Rattle.mh_why.specs.Cases.{refusal_cause, refusal_detail, refusal_mend}
 use Rattle.mh_why.specs.Circles.{at_words}
@@ -26,8 +27,11 @@ use Rattle.mh_judged.specs.Advised.{advice_in, advised, found_as}
 use Rattle.mh_judged.specs.Places.{numbered_site, part_site, site_at}
 
 -- V and the number
-unfoldable pub rule_of : Refusal → List ℕ
-rule_of r = codes "V" ++ decimal (unwrap_or (kind_number r.kind) 0)
+unfoldable pub rule_of_kind : RefusalKind → List ℕ
+rule_of_kind k = codes "V" ++ decimal (unwrap_or (kind_number k) 0)
+
+abbrev pub rule_of : Refusal → List ℕ
+rule_of r = rule_of_kind r.kind
 
 -- by its case; where that is not known, by its number
 abbrev pub case_or_row : List ℕ → List ℕ → List ℕ → Advice

@@ -6,17 +6,21 @@ ghost use Rattle.std.specs.Option.{option_copied};
 ghost use Rattle.mh_told.specs.Reading.{service_tagged};
 ghost use Rattle.mh_told.specs.declared.unplayable.Unplayable.TheVariants.{NoMemory as unplayable_memory};
 ghost use Rattle.mh_verify.specs.declared.refusal.RefusalKind.TheVariants.{NoMemory};
-ghost use Rattle.mh_judged.specs.Judged.{IsListOf, IsServiceList};
+ghost use Rattle.mh_judged.specs.Judged.{IsListBehind, IsListOf, IsServiceList};
+ghost use Rattle.mh_judged.specs.Others.{told_findings};
 ghost use Rattle.mh_judged.specs.Refusals.{refusal_finding as refusal_finding_lem};
 ghost use Rattle.mh_judged.specs.Unread.{unread_findings};
 
 use crate::accepted::accepted_findings;
+use crate::others::push_others;
 use crate::refused::refusal_finding;
 use crate::unread::push_unread;
 use mh_base::GroupName;
 use mh_findings::Finding;
+use mh_flow::Equipped;
 use mh_lint::Asked;
 use mh_places::Directory;
+use mh_refusals::{Told, refusals_of};
 use mh_service::Service;
 use mh_told::reading::read_tagged_service;
 use mh_told::unplayable::Unplayable;
@@ -25,7 +29,7 @@ use std::alloc::{AllocError, Global};
 
 /// What is found of the service that the files of a folder make, which starts with the application of this name, in which the
 /// scenes come late that `late` names, a name a line, and whose files in the binary notation have the tags that `tags` gives.
-/// The folder is called so, and the file that gives tags is called `given`.
+/// The folder is called so, and the file that gives tags is called `given`. Of what is refused at most so many are told.
 pub fn findings_on(
     alloc: Global,
     given: &[u8],
@@ -35,12 +39,13 @@ pub fn findings_on(
     start: &[u8],
     late: Option<&[u8]>,
     asked: Asked,
+    most: usize,
 ) -> Result<Vec<Finding>, AllocError>
-    ensures { IfOk result (λ found. IsListOf asked given.now folder.now files.now start.now
+    ensures { IfOk result (λ found. IsListOf asked most given.now folder.now files.now start.now
         (service_tagged (option_copied tags.entry) start.now (option_copied late.entry) files.now) found.items) }
 {
     match read_tagged_service(alloc, tags, files, start, late) {
-        Ok(service) => verified(alloc, service, folder, files, start, asked),
+        Ok(service) => verified(alloc, service, folder, files, start, asked, most),
         Err(why) => {
             let found = unplayable(alloc, given, folder, files, &why);
             drop(why);
@@ -68,7 +73,6 @@ fn unplayable(
 }
 
 /// The same, where it is not for want of memory.
-
 fn unread(
     alloc: Global,
     given: &[u8],
@@ -91,8 +95,9 @@ fn verified(
     files: &[(GroupName, Vec<u8>)],
     start: &[u8],
     asked: Asked,
+    most: usize,
 ) -> Result<Vec<Finding>, AllocError>
-    ensures { IfOk result (λ found. IsServiceList asked service folder.now files.now start.now found.items) }
+    ensures { IfOk result (λ found. IsServiceList asked most service folder.now files.now start.now found.items) }
 {
     match verify(alloc, service, &[]) {
         Ok(accepted) => {
@@ -101,28 +106,29 @@ fn verified(
             found
         }
         Err(refusal) => {
-            let found = refused(alloc, folder, files, start, &refusal);
+            let found = refused(alloc, folder, files, start, &refusal, most);
             drop(refusal);
             found
         }
     }
 }
 
-/// What is found of a refusal.
+/// What is found of a refusal, and of what else is wrong, all at most so many.
 fn refused(
     alloc: Global,
     folder: &[u8],
     files: &[(GroupName, Vec<u8>)],
     start: &[u8],
     refusal: &Refusal,
+    most: usize,
 ) -> Result<Vec<Finding>, AllocError>
     ensures { IfOk result (λ found.
-        (found.items ≡ refusal_finding_lem folder.now files.now start.now refusal.now ∷ [])
+        IsListBehind most folder.now files.now start.now refusal.now found.items
         × (refusal.now.kind ≡ NoMemory → ⊥)) }
 {
     match refusal.kind {
         RefusalKind::NoMemory => Err(AllocError),
-        _ => list_of(alloc, folder, files, start, refusal),
+        _ => list_of(alloc, folder, files, start, refusal, most),
     }
 }
 
@@ -133,12 +139,12 @@ fn list_of(
     files: &[(GroupName, Vec<u8>)],
     start: &[u8],
     refusal: &Refusal,
+    most: usize,
 ) -> Result<Vec<Finding>, AllocError>
-    ensures { IfOk result (λ found.
-        found.items ≡ refusal_finding_lem folder.now files.now start.now refusal.now ∷ []) }
+    ensures { IfOk result (λ found. IsListBehind most folder.now files.now start.now refusal.now found.items) }
 {
     let directory = Directory::of(alloc, files)?;
-    let found = list_by(alloc, folder, &directory, start, refusal);
+    let found = list_by(alloc, folder, &directory, start, refusal, most);
     drop(directory);
     found
 }
@@ -150,11 +156,30 @@ fn list_by(
     directory: &Directory<'_>,
     start: &[u8],
     refusal: &Refusal,
+    most: usize,
 ) -> Result<Vec<Finding>, AllocError>
-    ensures { IfOk result (λ found.
-        found.items ≡ refusal_finding_lem folder.now directory.now start.now refusal.now ∷ []) }
+    ensures { IfOk result (λ found. IsListBehind most folder.now directory.now start.now refusal.now found.items) }
+{
+    let service = Equipped::new(&refusal.service, &[]);
+    let told = refusals_of(alloc, &service, most)?;
+    list_told(alloc, folder, directory, start, refusal, told.as_slice())
+}
+
+/// The refusal, and these but for the first.
+fn list_told(
+    alloc: Global,
+    folder: &[u8],
+    directory: &Directory<'_>,
+    start: &[u8],
+    refusal: &Refusal,
+    told: &[Told],
+) -> Result<Vec<Finding>, AllocError>
+    ensures { IfOk result (λ found. found.items
+        ≡ refusal_finding_lem folder.now directory.now start.now refusal.now
+        ∷ told_findings refusal.now.service folder.now directory.now told.now) }
 {
     let mut found = Vec::new(alloc);
     found.push(refusal_finding(alloc, folder, directory, start, refusal)?)?;
+    push_others(alloc, &mut found, &refusal.service, folder, directory, told)?;
     Ok(found)
 }

@@ -8,9 +8,11 @@
 mod accepted;
 mod advice;
 mod judged;
+mod marked;
 mod mistakes;
 mod never;
 mod noted;
+mod others;
 mod refused;
 mod related;
 mod sites;

@@ -14,7 +14,7 @@ use mh_cause::Detail;
 use mh_findings::{Finding, Grade, Site};
 use mh_places::Directory;
 use mh_told::text::Text;
-use mh_verify::{Place, Refusal};
+use mh_verify::{Place, Refusal, RefusalKind};
 use mh_why::explanation::advice::refusals;
 use mh_why::{Case, case_of};
 use std::alloc::{AllocError, Global};
@@ -31,7 +31,7 @@ pub(crate) fn refusal_finding(
     ensures { IfOk result (λ finding.
         finding ≡ spec.refusal_finding folder.now directory.now start.now refusal.now) }
 {
-    let rule = rule_of(alloc, refusal)?;
+    let rule = rule_of_kind(alloc, refusal.kind)?;
     let case = case_of(alloc, refusal)?;
     finding_by(
         alloc,
@@ -65,18 +65,19 @@ fn finding_by(
     found_as(alloc, Grade::Refused, rule, at, advice, related)
 }
 
-#[tactic(auto, unfolding(crate::specs::Refusals::rule_of))]
-fn rule_of(alloc: Global, refusal: &Refusal) -> Result<Text, AllocError>
-    ensures { IfOk result (λ rule. rule ≡ spec.rule_of refusal.now) }
+/// The rule by which a refusal of this kind is told.
+#[tactic(auto, unfolding(crate::specs::Refusals::rule_of_kind))]
+pub(crate) fn rule_of_kind(alloc: Global, kind: RefusalKind) -> Result<Text, AllocError>
+    ensures { IfOk result (λ rule. rule ≡ spec.rule_of_kind kind) }
 {
     let mut rule = Text::new(alloc);
     rule.put(b"V")?;
-    rule.put_number(u64::from(refusal.kind.number().unwrap_or(0)))?;
+    rule.put_number(u64::from(kind.number().unwrap_or(0)))?;
     Ok(rule)
 }
 
 /// The cause and the mend by the case; where that is not known, by the number.
-fn case_or_row(alloc: Global, rule: &[u8], case: &Case) -> Result<Advice, AllocError>
+pub(crate) fn case_or_row(alloc: Global, rule: &[u8], case: &Case) -> Result<Advice, AllocError>
     ensures { IfOk result (λ advice. advice ≡ spec.case_or_row rule.now case.now.cause case.now.mend) }
 {
     match case.cause.as_slice() {

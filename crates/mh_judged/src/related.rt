@@ -42,7 +42,7 @@ pub(crate) fn related_to(
 }
 
 /// Pushes where the object stands that is named, if it stands somewhere.
-fn push_named(
+pub(crate) fn push_named(
     alloc: Global,
     related: &mut Seq<Related>,
     folder: &[u8],
@@ -86,7 +86,7 @@ fn named_here(alloc: Global, at: Site, named: &ObjRef) -> Result<Related, AllocE
     Ok(Related { at, what })
 }
 
-fn push_links(
+pub(crate) fn push_links(
     alloc: Global,
     related: &mut Seq<Related>,
     folder: &[u8],

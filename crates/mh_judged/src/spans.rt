@@ -1,7 +1,8 @@
 //! What of a text is meant.
 //!
 //! Promise: each function answers what the definition of its name in `specs/Places` says.
-ghost use Rattle.std.specs.Prelude.{◌≡◌, IfOk, drop};
+ghost use Rattle.std.specs.Prelude.{◌≡◌, IfOk, drop, option_map};
+ghost use Rattle.mh_text.specs.Marks.{mark_of as mark_of_lem};
 ghost use Rattle.mh_judged.specs.Places as spec;
 
 use mh_cause::Detail;
@@ -61,9 +62,16 @@ pub(crate) fn part_span(
     ensures { IfOk result (λ span. span ≡ spec.part_span place.now detail bytes.now) }
 {
     let marks = marks(alloc, bytes)?;
-    match mark_of(marks.as_slice(), place.object, place.index) {
-        Some(mark) => Ok(Some(detail_span(detail, bytes, &mark))),
-        None => Ok(None),
+    Ok(span_by(place, detail, bytes, marks.as_slice()))
+}
+
+/// The same, by the marks of the text.
+pub(crate) fn span_by(place: &Place, detail: Detail, bytes: &[u8], marks: &[Mark]) -> Option<Span>
+    ensures { result ≡ option_map (spec.detail_span detail bytes.now) (mark_of_lem marks.now place.now.object place.now.index) }
+{
+    match mark_of(marks, place.object, place.index) {
+        Some(mark) => Some(detail_span(detail, bytes, &mark)),
+        None => None,
     }
 }
 

@@ -25,11 +25,15 @@ has_in bs rule.DivisionByZero = refl
 has_in bs rule.NegativeSize = refl
 has_in bs rule.ColourOctets = refl
 has_in bs rule.UnheardTimer = refl
+has_in bs rule.LockedForEver = refl
 has_in bs rule.UnreadVariable = refl
+has_in bs rule.NoInteraction = refl
 has_in bs rule.OffScreen = refl
 has_in bs rule.CoversNoCell = refl
 has_in bs rule.CutText = refl
 has_in bs rule.TextInItsColour = refl
+has_in bs rule.BareLineFeeds = refl
+has_in bs rule.NamedAlike = refl
 has_in bs rule.ContentToCome = refl
 
 found_so : (x : Rule) (o : Option Source) (q : Option Allowed) → IsFound IsTurnedOff o q → has_if q x ≡ file_allows o (comment_words x)

@@ -41,11 +41,15 @@ allowed_in bs = record {
   negative_size = allows (comment_words rule.NegativeSize) bs;
   colour_octets = allows (comment_words rule.ColourOctets) bs;
   unheard_timer = allows (comment_words rule.UnheardTimer) bs;
+  locked_for_ever = allows (comment_words rule.LockedForEver) bs;
   unread_variable = allows (comment_words rule.UnreadVariable) bs;
+  no_interaction = allows (comment_words rule.NoInteraction) bs;
   off_screen = allows (comment_words rule.OffScreen) bs;
   covers_no_cell = allows (comment_words rule.CoversNoCell) bs;
   cut_text = allows (comment_words rule.CutText) bs;
   text_in_its_colour = allows (comment_words rule.TextInItsColour) bs;
+  bare_line_feeds = allows (comment_words rule.BareLineFeeds) bs;
+  named_alike = allows (comment_words rule.NamedAlike) bs;
   content_to_come = allows (comment_words rule.ContentToCome) bs;
 }
 

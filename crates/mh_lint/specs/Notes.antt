@@ -12,7 +12,7 @@ use Rattle.mh_group.specs.declared.action_name.ActionName.{ActionName}
 use Rattle.mh_group.specs.declared.action_name.ActionName.TheVariants as action
 use Rattle.mh_group.specs.declared.attribute.Attribute.TheVariants as attribute
 use Rattle.mh_group.specs.declared.class.Class.{Class}
-use Rattle.mh_group.specs.Table.{is_application, is_link, is_scene, is_variable, is_visible}
+use Rattle.mh_group.specs.Table.{is_application, is_entry_field, is_link, is_scene, is_variable, is_visible}
 use Rattle.mh_model.specs.declared.act.Act.{Act}
 use Rattle.mh_model.specs.declared.act.Argument.{Argument}
 use Rattle.mh_model.specs.declared.act.Argument.TheVariants as argument
@@ -32,7 +32,7 @@ use Rattle.mh_lint.specs.declared.rule.Rule.{Rule}
 use Rattle.mh_lint.specs.declared.rule.Rule.TheVariants as rule
 use Rattle.mh_lint.specs.declared.seen.Seen.{Seen}
 use Rattle.mh_lint.specs.Sights.{covers_none, cuts_words, hides_words, is_off}
-use Rattle.mh_lint.specs.Sources.{file_of, has_unknown, is_called_else, is_to_come}
+use Rattle.mh_lint.specs.Sources.{file_of, has_unknown, is_called_else, is_glued, is_mistaken, is_to_come}
 use Rattle.mh_lint.specs.Uses.{Uses, is_timing, is_used, uses, leave_alone}
 
 -- of the action with this number of the object, from 1 on, or with 0 of the object itself
@@ -110,6 +110,14 @@ sets_unheard u _ _ = false
 abbrev pub is_unheard : Uses → Act → Bool
 is_unheard u a = is_timing a.name && sets_unheard u a.target a.arguments
 
+abbrev pub is_lock : ActionName → Bool
+is_lock action.LockScreen = true
+is_lock _ = false
+
+-- the screen is locked, and no action unlocks it
+abbrev pub locks_for_ever : Uses → Act → Bool
+locks_for_ever u a = is_lock a.name && not u.has_unlock
+
 -- THE ACTIONS OF AN OBJECT, each with whether it stands behind one that leads away
 
 abbrev pub seen_as : Bool → Act → Seen
@@ -144,7 +152,7 @@ unfoldable pub of_act : Uses → ObjRef → ℕ → Seen → List Note
 of_act u r n x =
     if_so x.is_behind rule.BehindTransition r n ++ if_so (divides_by_zero x.act) rule.DivisionByZero r n
     ++ if_so (has_negative x.act) rule.NegativeSize r n ++ if_so (has_no_colour x.act) rule.ColourOctets r n
-    ++ if_so (is_unheard u x.act) rule.UnheardTimer r n
+    ++ if_so (is_unheard u x.act) rule.UnheardTimer r n ++ if_so (locks_for_ever u x.act) rule.LockedForEver r n
 
 -- of actions, of which the first has this number
 unfoldable pub of_acts : Uses → ObjRef → ℕ → List Seen → List Note
@@ -162,6 +170,10 @@ does_nothing p = is_link p.class && is_empty (link_effect p)
 
 abbrev pub is_unread : Uses → Fixed → Bool
 is_unread u p = is_variable p.class && not (is_used u.read p.key)
+
+-- a field into which nothing is ever typed
+abbrev pub takes_nothing : Uses → Fixed → Bool
+takes_nothing u p = is_entry_field p.class && not (is_used u.touched p.key)
 
 -- what is noted of a visible by what it looks like
 unfoldable pub of_look : Uses → Fixed → List Note
@@ -190,11 +202,13 @@ is_lost u p =
 unfoldable pub of_itself : Uses → Bool → Fixed → List Note
 of_itself u is_of_application p =
     if_so (is_of_application && is_lost u p) rule.NotShared p.key 0 ++ if_so (does_nothing p) rule.NoActions p.key 0
-    ++ if_so (is_unread u p) rule.UnreadVariable p.key 0 ++ of_look u p
+    ++ if_so (is_unread u p) rule.UnreadVariable p.key 0 ++ if_so (takes_nothing u p) rule.NoInteraction p.key 0 ++ of_look u p
 
 -- content that has to arrive is told where all is asked for
-abbrev pub of_content : Bool → List Source → Fixed → List Note
-of_content all fs p = if_so (all && is_to_come fs p) rule.ContentToCome p.key 0
+unfoldable pub of_content : Bool → List Source → Fixed → List Note
+of_content all fs p =
+    if_so (is_glued fs p) rule.BareLineFeeds p.key 0 ++ if_so (is_mistaken fs p) rule.NamedAlike p.key 0
+    ++ if_so (all && is_to_come fs p) rule.ContentToCome p.key 0
 
 -- of an object: of itself, of its content and of its actions
 unfoldable pub of_object : Bool → List Source → Uses → List (List ℕ) → Bool → Fixed → List Note

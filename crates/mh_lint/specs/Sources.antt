@@ -1,9 +1,9 @@
 -- What is noted by the files as they are handed in: how a group calls itself, which rules a file turns off, and which content is
--- to come.
-use Rattle.std.specs.Prelude.{ℕ, zero, suc, ◌==◌, Bool, true, false, ◌&&◌, not, if◌then◌else◌, List, [], ◌∷◌, codes, drop, length, take, Option, Some, None}
-use Rattle.std.specs.List.{find, list_any}
+-- to come, has nearly the name of a file, or has lines that are glued together.
+use Rattle.std.specs.Prelude.{ℕ, zero, suc, ◌+◌, ◌==◌, nat_lt, Bool, true, false, ◌&&◌, ◌||◌, not, if◌then◌else◌, List, [], ◌∷◌, codes, drop, length, take, Option, Some, None}
+use Rattle.std.specs.List.{find, list_any, position}
 use Rattle.std.specs.Option.{option_map_or}
-use Rattle.std.specs.Str.{bytes_eq}
+use Rattle.std.specs.Str.{bytes_eq, str_eq_ignore_ascii_case}
 use Rattle.bstr.specs.Text.{lines_of, without_terminator}
 use Rattle.mh_base.specs.declared.value.Value.{Value}
 use Rattle.mh_base.specs.declared.value.Value.TheVariants as value
@@ -87,3 +87,55 @@ is_missing fs _ = false
 -- the object shows content that has to arrive
 abbrev pub is_to_come : List Source → Fixed → Bool
 is_to_come fs p = has_content p.class && is_missing fs (as_value (held attribute.OrigContent p.properties))
+
+-- CONTENT OF WHICH THE NAME IS NEARLY THERE: but for the case of letters, or for an ending behind a dot
+
+abbrev pub begins_dot : List ℕ → Bool
+begins_dot [] = false
+begins_dot (b ∷ bs) = b == 46
+
+abbrev pub has_ending : List ℕ → List ℕ → Bool
+has_ending short long = bytes_eq (take (length short) long) short && begins_dot (drop (length short) long)
+
+abbrev pub is_named_alike : List ℕ → List ℕ → Bool
+is_named_alike g h = str_eq_ignore_ascii_case h g || has_ending g h || has_ending h g
+
+abbrev pub has_alike : List Source → List ℕ → Bool
+has_alike fs g = list_any (λ (f : Source). is_named_alike g f.0) fs
+
+abbrev pub is_nearly_there : List Source → Option Value → Bool
+is_nearly_there fs (Some (value.Content g)) = not (has_file fs g) && has_alike fs g
+is_nearly_there fs _ = false
+
+-- the object shows content that is not there, while a file has nearly its name
+abbrev pub is_mistaken : List Source → Fixed → Bool
+is_mistaken fs p = has_content p.class && is_nearly_there fs (as_value (held attribute.OrigContent p.properties))
+
+-- LINES THAT ARE GLUED TOGETHER: they end in line feeds, which draw nothing, and not in carriage returns. One at the very end does
+-- no harm.
+
+abbrev pub is_feed : ℕ → Bool
+is_feed b = b == 10
+
+abbrev pub is_return : ℕ → Bool
+is_return b = b == 13
+
+abbrev pub is_within : ℕ → Option ℕ → Bool
+is_within count None = false
+is_within count (Some n) = nat_lt (n + 1) count
+
+abbrev pub glues : List ℕ → Bool
+glues bs = is_within (length bs) (position is_feed bs) && not (list_any is_return bs)
+
+abbrev pub glues_file : Option Source → Bool
+glues_file None = false
+glues_file (Some f) = glues f.1.items
+
+abbrev pub glues_value : List Source → Option Value → Bool
+glues_value fs (Some (value.Octets bs)) = glues bs
+glues_value fs (Some (value.Content g)) = glues_file (file_of fs g)
+glues_value fs _ = false
+
+-- the object shows content whose lines are glued together
+abbrev pub is_glued : List Source → Fixed → Bool
+is_glued fs p = has_content p.class && glues_value fs (as_value (held attribute.OrigContent p.properties))

@@ -39,6 +39,7 @@ changes change.Words action.SetLabel = true
 changes change.Colour action.SetTextColour = true
 changes change.Running action.Run = true
 changes change.Running action.Activate = true
+changes change.Interaction action.SetInteractionStatus = true
 changes c n = false
 
 -- what an action is done to that changes this
@@ -129,11 +130,16 @@ abbrev pub is_transit : ActionName → Bool
 is_transit action.TransitionTo = true
 is_transit _ = false
 
+abbrev pub is_unlock : ActionName → Bool
+is_unlock action.UnlockScreen = true
+is_unlock _ = false
+
 abbrev pub objects : Service → List Fixed
 objects v = flat_map (λ g. g.1) v.groups
 
 -- what is moved, given another size, other words, another colour of its text; what is run; which variables
--- are read; which timers are heard and which are set; and that there is a transition
+-- are read; what is let interact; which timers are heard and which are set; and that there is a transition, and what unlocks the
+-- screen
 pub record Uses : Type 0 where
   pub moved : List Target
   pub resized : List Target
@@ -141,9 +147,11 @@ pub record Uses : Type 0 where
   pub tinted : List Target
   pub run : List Target
   pub read : List Target
+  pub touched : List Target
   pub heard : List Timers
   pub timed : List Timers
   pub has_transition : Bool
+  pub has_unlock : Bool
 
 abbrev pub uses_of : List Fixed → List Act → Uses
 uses_of ps acts = record {
@@ -153,9 +161,11 @@ uses_of ps acts = record {
   tinted = flat_map (changed_by change.Colour) acts;
   run = flat_map (changed_by change.Running) acts ++ flat_map added_by acts ++ flat_map grouped_by ps;
   read = flat_map read_by acts;
+  touched = flat_map (changed_by change.Interaction) acts;
   heard = flat_map heard_by ps;
   timed = flat_map set_by acts;
   has_transition = list_any (λ a. is_transit a.name) acts;
+  has_unlock = list_any (λ a. is_unlock a.name) acts;
 }
 
 -- of all objects of a service, and of all actions of all their effects

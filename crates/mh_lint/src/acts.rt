@@ -151,6 +151,19 @@ fn sets_unheard(uses: &Uses, target: &Target, arguments: &[Argument]) -> bool
     }
 }
 
+fn is_lock(name: ActionName) -> bool
+    ensures { result ≡ spec.is_lock name }
+{
+    matches!(name, ActionName::LockScreen)
+}
+
+/// Whether it locks the screen, and no action unlocks it.
+pub(crate) fn locks_for_ever(uses: &Uses, act: &Act) -> bool
+    ensures { result ≡ spec.locks_for_ever uses.now act.now }
+{
+    is_lock(act.name) && !uses.has_unlock
+}
+
 /// Whether it sets a timer that no link hears.
 pub(crate) fn is_unheard(uses: &Uses, act: &Act) -> bool
     ensures { result ≡ spec.is_unheard uses.now act.now }

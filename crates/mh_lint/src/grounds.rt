@@ -109,11 +109,15 @@ fn allowed_in(alloc: Global, bytes: &[u8]) -> Result<Allowed, AllocError>
         negative_size: is_turned_off(alloc, bytes, Rule::NegativeSize)?,
         colour_octets: is_turned_off(alloc, bytes, Rule::ColourOctets)?,
         unheard_timer: is_turned_off(alloc, bytes, Rule::UnheardTimer)?,
+        locked_for_ever: is_turned_off(alloc, bytes, Rule::LockedForEver)?,
         unread_variable: is_turned_off(alloc, bytes, Rule::UnreadVariable)?,
+        no_interaction: is_turned_off(alloc, bytes, Rule::NoInteraction)?,
         off_screen: is_turned_off(alloc, bytes, Rule::OffScreen)?,
         covers_no_cell: is_turned_off(alloc, bytes, Rule::CoversNoCell)?,
         cut_text: is_turned_off(alloc, bytes, Rule::CutText)?,
         text_in_its_colour: is_turned_off(alloc, bytes, Rule::TextInItsColour)?,
+        bare_line_feeds: is_turned_off(alloc, bytes, Rule::BareLineFeeds)?,
+        named_alike: is_turned_off(alloc, bytes, Rule::NamedAlike)?,
         content_to_come: is_turned_off(alloc, bytes, Rule::ContentToCome)?,
     })
 }

@@ -4,12 +4,13 @@
 ghost use Rattle.std.specs.Prelude.{◌≡◌, ◌<◌, ◌^◌, ◌+◌, ◌++◌, ◌∷◌, [], length, OnOk};
 ghost use Rattle.mh_lint.specs.Notes as spec;
 
-use crate::acts::{divides_by_zero, has_negative, has_no_colour, is_unheard};
+use crate::acts::{divides_by_zero, has_negative, has_no_colour, is_unheard, locks_for_ever};
 use crate::note::Note;
 use crate::rule::Rule;
 use crate::seen::{Seen, seen_of};
 use crate::sharing::is_lost;
 use crate::sights::{covers_none, cuts_words, hides_words, is_off};
+use crate::sources::content::{is_glued, is_mistaken};
 use crate::sources::is_to_come;
 use crate::uses::Uses;
 use mh_base::{GroupName, ObjRef};
@@ -63,7 +64,14 @@ fn push_act(
     push_if(notes, divides_by_zero(act), Rule::DivisionByZero, at, index)?;
     push_if(notes, has_negative(act), Rule::NegativeSize, at, index)?;
     push_if(notes, has_no_colour(act), Rule::ColourOctets, at, index)?;
-    push_if(notes, is_unheard(uses, act), Rule::UnheardTimer, at, index)
+    push_if(notes, is_unheard(uses, act), Rule::UnheardTimer, at, index)?;
+    push_if(
+        notes,
+        locks_for_ever(uses, act),
+        Rule::LockedForEver,
+        at,
+        index,
+    )
 }
 
 /// What is noted of actions, of which the first has this number.
@@ -105,6 +113,13 @@ fn is_unread(uses: &Uses, part: &Fixed) -> bool
     part.class.is_variable() && !uses.read.may_be(&part.key)
 }
 
+/// Whether it is a field into which nothing is ever typed.
+fn takes_nothing(uses: &Uses, part: &Fixed) -> bool
+    ensures { result ≡ spec.takes_nothing uses.now part.now }
+{
+    matches!(part.class, Class::EntryField) && !uses.touched.may_be(&part.key)
+}
+
 /// What is noted of a visible by what it looks like.
 #[tactic(auto, unfolding(crate::specs::Notes::of_look))]
 fn push_look(notes: &mut Vec<Note>, uses: &Uses, part: &Fixed) -> Result<(), AllocError>
@@ -132,10 +147,12 @@ fn push_itself(
     push_if(notes, ends, Rule::NotShared, at, 0)?;
     push_if(notes, does_nothing(part), Rule::NoActions, at, 0)?;
     push_if(notes, is_unread(uses, part), Rule::UnreadVariable, at, 0)?;
+    push_if(notes, takes_nothing(uses, part), Rule::NoInteraction, at, 0)?;
     push_look(notes, uses, part)
 }
 
-/// Content that has to arrive, where all is asked for.
+/// What is noted of its content; also that it has to arrive, where all is asked for.
+#[tactic(auto, unfolding(crate::specs::Notes::of_content))]
 fn push_content(
     notes: &mut Vec<Note>,
     all: bool,
@@ -145,6 +162,20 @@ fn push_content(
     ensures { OnOk result (notes.new.items ≡ notes.old.items ++ spec.of_content all files.now part.now) }
 {
     let is_told = all && is_to_come(files, part);
+    push_if(
+        notes,
+        is_glued(files, part),
+        Rule::BareLineFeeds,
+        &part.key,
+        0,
+    )?;
+    push_if(
+        notes,
+        is_mistaken(files, part),
+        Rule::NamedAlike,
+        &part.key,
+        0,
+    )?;
     push_if(notes, is_told, Rule::ContentToCome, &part.key, 0)
 }
 

@@ -27,8 +27,12 @@ pub enum Rule {
     ColourOctets,
     /// A timer is set that no link hears.
     UnheardTimer,
+    /// The screen is locked, and nothing unlocks it.
+    LockedForEver,
     /// A variable is read by nothing.
     UnreadVariable,
+    /// Nothing lets a field interact.
+    NoInteraction,
     /// A visible lies off the screen, and stays there.
     OffScreen,
     /// A visible covers no cell, and never will.
@@ -37,12 +41,16 @@ pub enum Rule {
     CutText,
     /// A text has the colour that lies behind it.
     TextInItsColour,
+    /// Content has line feeds, and no carriage return.
+    BareLineFeeds,
+    /// Content is not there, while a file with nearly its name is.
+    NamedAlike,
     /// Content has to arrive.
     ContentToCome,
 }
 
 /// All rules.
-pub const RULES: [Rule; 17] = [
+pub const RULES: [Rule; 21] = [
     Rule::EditorBackup,
     Rule::IdentifierDiffers,
     Rule::UnknownRule,
@@ -54,11 +62,15 @@ pub const RULES: [Rule; 17] = [
     Rule::NegativeSize,
     Rule::ColourOctets,
     Rule::UnheardTimer,
+    Rule::LockedForEver,
     Rule::UnreadVariable,
+    Rule::NoInteraction,
     Rule::OffScreen,
     Rule::CoversNoCell,
     Rule::CutText,
     Rule::TextInItsColour,
+    Rule::BareLineFeeds,
+    Rule::NamedAlike,
     Rule::ContentToCome,
 ];
 
@@ -87,11 +99,15 @@ impl Rule {
             Rule::NegativeSize => b"negative-size",
             Rule::ColourOctets => b"colour-octets",
             Rule::UnheardTimer => b"unheard-timer",
+            Rule::LockedForEver => b"locked-for-ever",
             Rule::UnreadVariable => b"unread-variable",
+            Rule::NoInteraction => b"no-interaction",
             Rule::OffScreen => b"off-screen",
             Rule::CoversNoCell => b"covers-no-cell",
             Rule::CutText => b"cut-text",
             Rule::TextInItsColour => b"text-in-its-colour",
+            Rule::BareLineFeeds => b"bare-line-feeds",
+            Rule::NamedAlike => b"named-alike",
             Rule::ContentToCome => b"content-to-come",
         }
     }
@@ -119,13 +135,19 @@ impl Rule {
             Rule::NegativeSize => b"sets a negative size, which changes nothing",
             Rule::ColourOctets => b"sets a colour that has not four octets, which changes nothing",
             Rule::UnheardTimer => b"sets a timer that no link hears",
+            Rule::LockedForEver => b"locks the screen, and no action of the service unlocks it",
             Rule::UnreadVariable =>
                 b"is read by nothing: no action tests it, takes its value or goes through it",
+            Rule::NoInteraction => b"never takes a key: no action lets it interact",
             Rule::OffScreen => b"lies off the screen, and nothing moves it",
             Rule::CoversNoCell => b"covers no cell of 12 by 16 units, and nothing changes its box",
             Rule::CutText => b"has a text that is cut by its box, and nothing changes either",
             Rule::TextInItsColour =>
                 b"has a text in the colour of its own background, and nothing changes that",
+            Rule::BareLineFeeds =>
+                b"shows content with line feeds and no carriage return, which alone ends a line (=0D)",
+            Rule::NamedAlike =>
+                b"shows content that the folder has not, and a file there has nearly its name",
             Rule::ContentToCome => b"shows content that has to arrive: the folder has no such file",
         }
     }
@@ -145,11 +167,15 @@ pub struct Allowed {
     pub negative_size: bool,
     pub colour_octets: bool,
     pub unheard_timer: bool,
+    pub locked_for_ever: bool,
     pub unread_variable: bool,
+    pub no_interaction: bool,
     pub off_screen: bool,
     pub covers_no_cell: bool,
     pub cut_text: bool,
     pub text_in_its_colour: bool,
+    pub bare_line_feeds: bool,
+    pub named_alike: bool,
     pub content_to_come: bool,
 }
 
@@ -170,11 +196,15 @@ impl Allowed {
             Rule::NegativeSize => self.negative_size,
             Rule::ColourOctets => self.colour_octets,
             Rule::UnheardTimer => self.unheard_timer,
+            Rule::LockedForEver => self.locked_for_ever,
             Rule::UnreadVariable => self.unread_variable,
+            Rule::NoInteraction => self.no_interaction,
             Rule::OffScreen => self.off_screen,
             Rule::CoversNoCell => self.covers_no_cell,
             Rule::CutText => self.cut_text,
             Rule::TextInItsColour => self.text_in_its_colour,
+            Rule::BareLineFeeds => self.bare_line_feeds,
+            Rule::NamedAlike => self.named_alike,
             Rule::ContentToCome => self.content_to_come,
         }
     }

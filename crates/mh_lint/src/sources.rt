@@ -2,6 +2,9 @@
 //! to come.
 //!
 //! Promise: each function answers what the definition of the same matter in `specs/Sources` says.
+
+pub(crate) mod content;
+
 ghost use Rattle.std.specs.Prelude.{◌≡◌, IfOk, drop, length, option_map, take};
 ghost use Rattle.std.specs.Str.{bytes_eq};
 ghost use Rattle.std.specs.Option.{option_copied};
@@ -70,13 +73,13 @@ fn calls_itself_else(alloc: Global, bytes: &[u8], group: &GroupName) -> Result<b
     }
 }
 
-fn begins_with(words: &[u8], line: &[u8]) -> bool
+pub(crate) fn begins_with(words: &[u8], line: &[u8]) -> bool
     ensures { result ≡ bytes_eq (take (length words.now) line.now) words.now }
 {
     line.starts_with(words)
 }
 
-fn cut_behind<'a>(words: &[u8], line: &'a [u8]) -> &'a [u8]
+pub(crate) fn cut_behind<'a>(words: &[u8], line: &'a [u8]) -> &'a [u8]
     ensures { result.now ≡ drop (length words.now) line.now }
 {
     line.get(words.len()..).unwrap_or(&[])
@@ -142,7 +145,7 @@ pub(crate) fn has_unknown(file: Option<&(GroupName, Vec<u8>)>) -> bool
     }
 }
 
-fn has_file(files: &[(GroupName, Vec<u8>)], name: &GroupName) -> bool
+pub(crate) fn has_file(files: &[(GroupName, Vec<u8>)], name: &GroupName) -> bool
     ensures { result ≡ spec.has_file files.now name.now }
 {
     files.iter().any(|file| file.0 == *name)

@@ -25,10 +25,13 @@ pub enum Change {
     Colour,
     /// That it runs, or hears.
     Running,
+    /// That it interacts.
+    Interaction,
 }
 
 /// What is moved, given another size, other words, another colour of its text; what is run; which
-/// variables are read; which timers are heard and which are set; and that there is a transition.
+/// variables are read; what is let interact; which timers are heard and which are set; and that there is a transition, and
+/// what unlocks the screen.
 #[derive(Drop)]
 pub(crate) struct Uses {
     pub moved: Targets,
@@ -37,8 +40,10 @@ pub(crate) struct Uses {
     pub tinted: Targets,
     pub run: Targets,
     pub read: Targets,
+    pub touched: Targets,
     pub timers: KnownTimers,
     pub has_transition: bool,
+    pub has_unlock: bool,
 }
 
 impl Model for Uses {
@@ -53,9 +58,11 @@ impl Model for Uses {
       tinted = u.tinted;
       run = u.run;
       read = u.read;
+      touched = u.touched;
       heard = u.timers.heard;
       timed = u.timers.timed;
       has_transition = u.has_transition;
+      has_unlock = u.has_unlock;
     } };
 }
 
@@ -69,6 +76,7 @@ pub(crate) fn changes(change: Change, name: ActionName) -> bool
         Change::Words => matches!(name, ActionName::SetData | ActionName::SetLabel),
         Change::Colour => matches!(name, ActionName::SetTextColour),
         Change::Running => matches!(name, ActionName::Run | ActionName::Activate),
+        Change::Interaction => matches!(name, ActionName::SetInteractionStatus),
     }
 }
 

@@ -1,5 +1,5 @@
 -- What goes to a terminal is a list of pieces of drawing.
-use Rattle.std.specs.Prelude.{◌≡◌, ℕ, ◌+◌, ◌*◌, Bool, true, false, not, if◌then◌else◌, List, [], ◌∷◌, ◌++◌, map, take, Some, None, slice_index, refl}
+use Rattle.std.specs.Prelude.{◌≡◌, ℕ, ◌+◌, ◌*◌, Bool, true, false, not, if◌then◌else◌, List, [], ◌∷◌, ◌++◌, map, take, Option, Some, None, slice_index, refl}
 use Rattle.std.specs.List.{flat_map, list_all, range_with_len}
 use Rattle.std.specs.Str.{bytes_eq}
 use Rattle.std.proofs.Common.{ap, ◌∙◌, sym, append-nil}
@@ -12,7 +12,7 @@ use Rattle.mh_display.specs.Rows.{same_row}
 use Rattle.mh_told.specs.Printing.{character}
 use Rattle.mh_terminal.specs.Frames.{is_order, harmless, plain, turn, turns, colour_orders, row_end, shown_cell, shown_row}
 use Rattle.mh_live.specs.Drawing.{Piece, Move, ClearScreen, ClearLine, Colour, Background, UsualColours, LineEnd, Characters, spelling, is_harmless, IsDrawing, ScreensAreDrawings}
-use Rattle.mh_live.specs.Screen.{Screen, all_rows, changed_at, changed_line, changed_lines, changed_row, changed_rows, changes, drawn_line, drawn_row, fitting, line_at, move_to, row_where, whole}
+use Rattle.mh_live.specs.Screen.{Screen, all_rows, drawn, changed_at, changed_line, changed_lines, changed_row, changed_rows, changes, drawn_line, drawn_row, end_text, fitting, line_at, move_to, row_where, small_text, wanted_text, whole}
 
 -- Pieces, one behind the other.
 
@@ -120,33 +120,45 @@ fitting_drawn : (line : List ℕ) (width : ℕ) → IsDrawing (fitting line widt
 unfolding fitting
 fitting_drawn line width = plain_drawn (take width line)
 
-line_drawn : (line : List ℕ) (place : ℕ) → IsDrawing (drawn_line line place)
+line_drawn : (columns : ℕ) (line : List ℕ) (place : ℕ) → IsDrawing (drawn_line columns line place)
 unfolding drawn_line
-line_drawn line place = moved (37 + place) ⌢ one ClearLine refl ⌢ fitting_drawn line 78
+line_drawn columns line place = moved (37 + place) ⌢ one ClearLine refl ⌢ fitting_drawn line columns
 
-changed_line_drawn : (before after : List ℕ) (place : ℕ) → IsDrawing (changed_line before after place)
+changed_line_drawn : (columns : ℕ) (before after : List ℕ) (place : ℕ) → IsDrawing (changed_line columns before after place)
 unfolding changed_line
-changed_line_drawn before after place = by (bytes_eq before after)
+changed_line_drawn columns before after place = by (bytes_eq before after)
   where
-    by : (b : Bool) → IsDrawing (if b then [] else drawn_line after place)
+    by : (b : Bool) → IsDrawing (if b then [] else drawn_line columns after place)
     by true = nothing
-    by false = line_drawn after place
+    by false = line_drawn columns after place
 
-lines_drawn : (before after : List (List ℕ)) → IsDrawing (changed_lines before after)
+lines_drawn : (columns : ℕ) (before after : List (List ℕ)) → IsDrawing (changed_lines columns before after)
 unfolding changed_lines
-lines_drawn before after =
-    each_drawn (changed_at before after) (λ place. changed_line_drawn (line_at before place) (line_at after place) place) (range_with_len 0 6)
+lines_drawn columns before after =
+    each_drawn (changed_at columns before after)
+    (λ place. changed_line_drawn columns (line_at before place) (line_at after place) place) (range_with_len 0 9)
 
 -- Screens.
 
 whole_drawn : (s : Screen) → IsDrawing (whole s)
 unfolding whole
-whole_drawn s = one ClearScreen refl ⌢ rows_drawn s.picture ⌢ lines_drawn [] s.lines
+whole_drawn s = one ClearScreen refl ⌢ rows_drawn s.picture ⌢ lines_drawn s.columns [] s.lines
 
 changes_drawn : (before after : Screen) → IsDrawing (changes before after)
 unfolding changes
-changes_drawn before after = changed_rows_drawn before.picture after.picture ⌢ lines_drawn before.lines after.lines
+changes_drawn before after = changed_rows_drawn before.picture after.picture ⌢ lines_drawn after.columns before.lines after.lines
+
+screen_drawn : (before : Option Screen) (after : Screen) → IsDrawing (drawn before after)
+screen_drawn None after = whole_drawn after
+screen_drawn (Some before) after = changes_drawn before after
+
+small_drawn : (rows columns : ℕ) → IsDrawing (small_text rows columns)
+unfolding small_text
+small_drawn rows columns = one ClearScreen refl ⌢ moved 1 ⌢ fitting_drawn (wanted_text rows columns) columns
+
+left_drawn : IsDrawing end_text
+unfolding end_text
+left_drawn = moved 46 ⌢ one ClearLine refl
 
 pub all_drawn : ScreensAreDrawings
-all_drawn None after = whole_drawn after
-all_drawn (Some before) after = changes_drawn before after
+all_drawn = (screen_drawn, small_drawn, left_drawn)

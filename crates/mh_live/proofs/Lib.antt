@@ -2,3 +2,4 @@ pub mod DrawingLemmas
 pub mod HearingLemmas
 pub mod PlaceLemmas
 pub mod ReplayLemmas
+pub mod DoneLemmas

@@ -8,7 +8,7 @@ use Rattle.mh_live.specs.declared.asks.Ask.TheVariants as ask
 use Rattle.mh_live.specs.declared.asks.Sequence.{Sequence}
 use Rattle.mh_live.specs.declared.asks.Sequence.TheVariants as sequence
 
--- Bytes that stand alone: digits, Enter, the letters of the colours and of Text; s, e and q, and Ctrl-C.
+-- Bytes that stand alone: digits, Enter, the letters of the colours and of Text; s, e, l and f, < and >, Ctrl-L, q and Ctrl-C.
 
 unfoldable pub digit_key : ℕ → Option Key
 digit_key b = key_named (b ∷ [])
@@ -26,11 +26,19 @@ abbrev pub key_ask : Option Key → Option Ask
 key_ask (Some k) = Some (ask.Key k)
 key_ask None = None
 
+unfoldable pub other_ask : ℕ → Option Ask
+other_ask b =
+    if b == 108 then Some ask.Scene
+    else (if b == 102 then Some ask.File
+    else (if b == 60 then Some ask.Back
+    else (if b == 62 then Some ask.Forth
+    else (if b == 12 then Some ask.Redraw else key_ask (plain_key b)))))
+
 unfoldable pub plain_ask : ℕ → Option Ask
 plain_ask b =
     if b == 115 then Some ask.Stream
     else (if b == 101 then Some ask.Engine
-    else (if b == 113 || b == 3 then Some ask.Quit else key_ask (plain_key b)))
+    else (if b == 113 || b == 3 then Some ask.Quit else other_ask b))
 
 -- Sequences: behind ESC [ and any number of parameters, or behind ESC O, the letters A to D are the arrows.
 

@@ -3,7 +3,7 @@ use Rattle.std.specs.Prelude.{◌≡◌, ℕ, Bool, true, not, List, ◌∷◌, 
 use Rattle.std.specs.List.{flat_map, list_all}
 use Rattle.mh_told.specs.Printing.{character}
 use Rattle.mh_terminal.specs.Frames.{colour_order, is_order}
-use Rattle.mh_live.specs.Screen.{Screen, clear_line, clear_screen, drawn, move_to}
+use Rattle.mh_live.specs.Screen.{Screen, clear_line, clear_screen, drawn, end_text, move_to, small_text}
 
 -- what drawing consists of
 pub data Piece : Type 0 where
@@ -42,6 +42,8 @@ pub record IsDrawing (bs : List ℕ) : Type 0 where
   pub spelled : bs ≡ flat_map spelling pieces
   pub harmless : list_all is_harmless pieces ≡ true
 
--- whatever was shown before, and whatever is to be shown
+-- whatever was shown before, and whatever is to be shown; what is shown of a window that is too small, and behind a play
 abbrev pub ScreensAreDrawings : Type 0
-ScreensAreDrawings = (before : Option Screen) (after : Screen) → IsDrawing (drawn before after)
+ScreensAreDrawings =
+    ((before : Option Screen) (after : Screen) → IsDrawing (drawn before after))
+    × ((rows columns : ℕ) → IsDrawing (small_text rows columns)) × IsDrawing end_text

@@ -11,14 +11,19 @@ use Rattle.mh_engine.specs.Play.{Play}
 use Rattle.mh_terminal.specs.Frames.{plain, shown_row}
 use Rattle.mh_live.specs.Below.{below}
 
--- what a terminal shows: a picture, and the lines below it
+-- what a terminal shows: a picture, the lines below it, and how many characters of a line
 pub record Screen : Type 0 where
   pub picture : Planes
   pub lines : List (List ℕ)
+  pub columns : ℕ
 
--- what is to be shown of a play
-abbrev pub screen_of : Play → Screen
-screen_of p = record { picture = shown p.state; lines = below p }
+-- what is to be shown of a play, with the places of its faults and what is told below everything
+abbrev pub screen_of : List (List ℕ) → List ℕ → ℕ → Play → Screen
+screen_of places notice columns p = record {
+  picture = shown p.state;
+  lines = below places notice p;
+  columns = columns;
+}
 
 -- Orders to the terminal.
 
@@ -58,32 +63,32 @@ changed_rows before after = flat_map (changed_row before after) (range_with_len 
 unfoldable pub fitting : List ℕ → ℕ → List ℕ
 fitting line width = plain (take width line)
 
-unfoldable pub drawn_line : List ℕ → ℕ → List ℕ
-drawn_line line place = move_to (37 + place) ++ clear_line ++ fitting line 78
+unfoldable pub drawn_line : ℕ → List ℕ → ℕ → List ℕ
+drawn_line columns line place = move_to (37 + place) ++ clear_line ++ fitting line columns
 
 -- a line that is another than before
-unfoldable pub changed_line : List ℕ → List ℕ → ℕ → List ℕ
-changed_line before after place = if bytes_eq before after then [] else drawn_line after place
+unfoldable pub changed_line : ℕ → List ℕ → List ℕ → ℕ → List ℕ
+changed_line columns before after place = if bytes_eq before after then [] else drawn_line columns after place
 
 -- the line at a place; where there is none, nothing
 abbrev pub line_at : List (List ℕ) → ℕ → List ℕ
 line_at lines place = unwrap_or (slice_get lines place) []
 
-abbrev pub changed_at : List (List ℕ) → List (List ℕ) → ℕ → List ℕ
-changed_at before after place = changed_line (line_at before place) (line_at after place) place
+abbrev pub changed_at : ℕ → List (List ℕ) → List (List ℕ) → ℕ → List ℕ
+changed_at columns before after place = changed_line columns (line_at before place) (line_at after place) place
 
-unfoldable pub changed_lines : List (List ℕ) → List (List ℕ) → List ℕ
-changed_lines before after = flat_map (changed_at before after) (range_with_len 0 6)
+unfoldable pub changed_lines : ℕ → List (List ℕ) → List (List ℕ) → List ℕ
+changed_lines columns before after = flat_map (changed_at columns before after) (range_with_len 0 9)
 
 -- Screens.
 
 -- at first the screen is cleared, and all of it is drawn
 unfoldable pub whole : Screen → List ℕ
-whole s = clear_screen ++ all_rows s.picture ++ changed_lines [] s.lines
+whole s = clear_screen ++ all_rows s.picture ++ changed_lines s.columns [] s.lines
 
 -- then the rows and lines that have changed
 unfoldable pub changes : Screen → Screen → List ℕ
-changes before after = changed_rows before.picture after.picture ++ changed_lines before.lines after.lines
+changes before after = changed_rows before.picture after.picture ++ changed_lines after.columns before.lines after.lines
 
 abbrev pub drawn : Option Screen → Screen → List ℕ
 drawn None after = whole after
@@ -91,4 +96,16 @@ drawn (Some before) after = changes before after
 
 -- behind a play the cursor stands below everything
 unfoldable pub end_text : List ℕ
-end_text = move_to 43 ++ clear_line
+end_text = move_to 46 ++ clear_line
+
+-- Where the window is too small, what it wants is all that is shown.
+
+unfoldable pub wanted_front : List ℕ
+wanted_front = codes "wanted: 60 columns, 46 lines; here: "
+
+unfoldable pub wanted_text : ℕ → ℕ → List ℕ
+wanted_text rows columns =
+    wanted_front ++ decimal columns ++ codes ", " ++ decimal rows
+
+unfoldable pub small_text : ℕ → ℕ → List ℕ
+small_text rows columns = clear_screen ++ move_to 1 ++ fitting (wanted_text rows columns) columns

@@ -18,6 +18,16 @@ pub enum Ask {
     Stream,
     /// An event of the engine.
     Engine,
+    /// The file of the late scene for which a transition waits.
+    Scene,
+    /// The next content file of those that are not there at the start.
+    File,
+    /// A step back: the play up to the last input.
+    Back,
+    /// A step forth again.
+    Forth,
+    /// The whole screen, drawn anew.
+    Redraw,
     /// The end of the play.
     Quit,
 }
@@ -159,6 +169,22 @@ fn plain_ask(byte: u8) -> Option<Ask>
         b'e' => Some(Ask::Engine),
         // Ctrl-C is a byte where the terminal hands it on
         b'q' | 3 => Some(Ask::Quit),
+        _ => other_ask(byte),
+    }
+}
+
+/// What a byte asks for that is no event.
+#[tactic(auto, unfolding(crate::specs::Asks::other_ask))]
+fn other_ask(byte: u8) -> Option<Ask>
+    ensures { result ≡ spec.other_ask byte }
+{
+    match byte {
+        b'l' => Some(Ask::Scene),
+        b'f' => Some(Ask::File),
+        b'<' => Some(Ask::Back),
+        b'>' => Some(Ask::Forth),
+        // Ctrl-L
+        12 => Some(Ask::Redraw),
         _ => key_ask(plain_key(byte)),
     }
 }

@@ -1,33 +1,71 @@
 //! The lines below the picture: the application and the scene with what runs there, the steps, and the last faults.
-ghost use Rattle.std.specs.Prelude.{◌≡◌, ◌++◌, ◌-◌, drop, length, [], OnOk, IfOk, map};
+
+mod awaited;
+pub(crate) mod faults;
+
+ghost use Rattle.std.specs.Prelude.{◌≡◌, ◌++◌, [], ◌∷◌, OnOk, IfOk};
 ghost use Rattle.std.specs.Option.{option_copied, option_map_or};
 ghost use Rattle.mh_model.specs.State.{all};
-ghost use Rattle.mh_told.specs.Reading.{without_feed};
 ghost use Rattle.mh_live.specs.Below as spec;
 
+use crate::below::awaited::push_awaited;
+use crate::below::faults::push_last;
 use mh_base::GroupName;
 use mh_engine::{Engine, Rest};
 use mh_group::Class;
 use mh_machine::Machine;
-use mh_model::{Fault, Object};
+use mh_model::Object;
 use mh_store::Objects;
 use mh_told::text::Text;
-use mh_told::told;
 use std::alloc::{AllocError, Global};
 
-/// How many faults are shown.
-const FAULTS: usize = 3;
-
-/// The lines below the picture, from the top.
-pub fn lines_below(alloc: Global, engine: &Engine) -> Result<Vec<Text>, AllocError>
-    ensures { IfOk result (λ lines. lines.items ≡ spec.below engine.now) }
+/// The lines below the picture, from the top, with the places of faults and what is told below everything.
+pub fn lines_below(
+    alloc: Global,
+    engine: &Engine,
+    places: &[Text],
+    notice: &Text,
+) -> Result<Vec<Text>, AllocError>
+    ensures { IfOk result (λ lines. lines.items ≡ spec.below places.now notice.now engine.now) }
 {
     let mut lines = Vec::new(alloc);
+    push_state(alloc, &mut lines, engine)?;
+    push_awaited(alloc, &mut lines, engine.machine())?;
+    push_last(alloc, &mut lines, engine.faults(), places)?;
+    push_notice(alloc, &mut lines, notice)?;
+    Ok(lines)
+}
+
+/// The lines on the application, the scene and the steps.
+fn push_state(alloc: Global, lines: &mut Vec<Text>, engine: &Engine) -> Result<(), AllocError>
+    ensures { OnOk result (lines.new.items ≡ lines.old.items ++ spec.application_line engine.now.state
+        ∷ spec.scene_line engine.now.state ∷ spec.steps_line engine.now ∷ []) }
+{
     lines.push(application_line(alloc, engine.machine())?)?;
     lines.push(scene_line(alloc, engine.machine())?)?;
     lines.push(steps_line(alloc, engine)?)?;
-    push_faults(alloc, &mut lines, last_of(engine.faults()))?;
-    Ok(lines)
+    Ok(())
+}
+
+/// The line that is told below everything, if it is not empty.
+fn push_notice(alloc: Global, lines: &mut Vec<Text>, notice: &Text) -> Result<(), AllocError>
+    ensures { OnOk result (lines.new.items ≡ lines.old.items ++ spec.notice_lines notice.now) }
+{
+    match notice.as_slice() {
+        [] => Ok(()),
+        [_, ..] => {
+            lines.push(copied(alloc, notice)?)?;
+            Ok(())
+        }
+    }
+}
+
+fn copied(alloc: Global, text: &Text) -> Result<Text, AllocError>
+    ensures { IfOk result (λ copy. copy ≡ text.now) }
+{
+    let mut copy = Text::new(alloc);
+    copy.put(text.as_slice())?;
+    Ok(copy)
 }
 
 #[tactic(auto, unfolding(crate::specs::Below::application_line))]
@@ -171,41 +209,5 @@ fn rest_text(rest: Rest) -> &'static [u8]
         Rest::Idle => b"",
         Rest::More => b", more to do",
         Rest::Ended => b", the application has quit",
-    }
-}
-
-/// The last faults, in order.
-fn last_of(faults: &[Fault]) -> &[Fault]
-    ensures { result.now ≡ drop (length faults.now - 3) faults.now }
-{
-    &faults[faults.len().saturating_sub(FAULTS)..]
-}
-
-fn push_faults(alloc: Global, lines: &mut Vec<Text>, faults: &[Fault]) -> Result<(), AllocError>
-    ensures { OnOk result (lines.new.items ≡ lines.old.items ++ map spec.fault_text faults.now) }
-{
-    for fault in faults {
-        lines.push(fault_text(alloc, fault)?)?;
-    }
-    Ok(())
-}
-
-/// A fault as the report tells it.
-fn fault_text(alloc: Global, fault: &Fault) -> Result<Text, AllocError>
-    ensures { IfOk result (λ text. text ≡ spec.fault_text fault.now) }
-{
-    let mut line = Text::new(alloc);
-    told::put_fault(&mut line, fault)?;
-    let mut text = Text::new(alloc);
-    text.put(without_feed(line.as_slice()))?;
-    Ok(text)
-}
-
-fn without_feed(line: &[u8]) -> &[u8]
-    ensures { result.now ≡ without_feed line.now }
-{
-    match line.strip_suffix(b"\n") {
-        Some(text) => text,
-        None => line,
     }
 }

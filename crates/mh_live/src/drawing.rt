@@ -2,7 +2,7 @@
 //!
 //! Each row and each line is put behind an order that moves the cursor there, so that it stands in its place whatever was
 //! put before.
-ghost use Rattle.std.specs.Prelude.{◌≡◌, ◌<◌, ◌++◌, [], take, OnOk, slice_get};
+ghost use Rattle.std.specs.Prelude.{◌≡◌, ◌<◌, ◌++◌, [], take, OnOk, IfOk, slice_get};
 ghost use Rattle.std.specs.Option.{option_copied};
 ghost use Rattle.mh_live.specs.Drawing.{ScreensAreDrawings};
 ghost use Rattle.mh_live.specs.Screen as spec;
@@ -13,16 +13,18 @@ use mh_model::Picture;
 use mh_model::picture::ROWS;
 use mh_terminal::{put_plain, put_row};
 use mh_told::text::Text;
-use std::alloc::AllocError;
+use std::alloc::{AllocError, Global};
 
 /// How many lines there can be below the picture.
-const LINES: usize = 6;
+const LINES: usize = 9;
 
 /// The number of the first of them: rows are counted from 1 on.
 const FIRST_LINE: usize = 37;
 
-/// How many characters of a line are shown, so that it stays one line where a terminal has 80 columns.
-const WIDTH: usize = 78;
+/// How many columns and lines the picture and what stands below it want of a window.
+pub const COLUMNS_WANTED: usize = 60;
+
+pub const LINES_WANTED: usize = 46;
 
 /// Puts what makes a terminal show the screen, where it shows the one before, if one was shown.
 pub(crate) fn put_screen(
@@ -47,7 +49,38 @@ pub fn put_end(text: &mut Text) -> Result<(), AllocError>
     put_clear(text)
 }
 
-/// Whatever was shown before, and whatever is to be shown, the terminal is given no order but those of drawing.
+/// Clears the screen, and tells what window is wanted, where it has so few rows or columns.
+#[tactic(auto, unfolding(crate::specs::Screen::small_text))]
+pub fn put_small(text: &mut Text, alloc: Global, rows: u32, columns: u32) -> Result<(), AllocError>
+    ensures { OnOk result (text.new ≡ text.old ++ spec.small_text rows columns) }
+{
+    let line = wanted_line(alloc, rows, columns)?;
+    text.put(b"\x1b[2J")?;
+    put_move(text, 1)?;
+    put_fitting(text, line.as_slice(), columns as usize)
+}
+
+#[tactic(auto, unfolding(crate::specs::Screen::wanted_text))]
+fn wanted_line(alloc: Global, rows: u32, columns: u32) -> Result<Text, AllocError>
+    ensures { IfOk result (λ line. line ≡ spec.wanted_text rows columns) }
+{
+    let mut line = Text::new(alloc);
+    line.put(wanted_front())?;
+    line.put_number(u64::from(columns))?;
+    line.put(b", ")?;
+    line.put_number(u64::from(rows))?;
+    Ok(line)
+}
+
+#[tactic(auto, unfolding(crate::specs::Screen::wanted_front))]
+fn wanted_front() -> &'static [u8]
+    ensures { result.now ≡ spec.wanted_front }
+{
+    b"wanted: 60 columns, 46 lines; here: "
+}
+
+/// Whatever was shown before, and whatever is to be shown, the terminal is given no order but those of drawing; nor is it
+/// where the window is too small, and behind a play.
 pub fn screens_are_drawings()
     ensures { ScreensAreDrawings }
 {}
@@ -58,7 +91,7 @@ fn put_whole(text: &mut Text, screen: &Screen) -> Result<(), AllocError>
 {
     text.put(b"\x1b[2J")?;
     put_rows(text, &screen.picture)?;
-    put_lines(text, &[], screen.lines.as_slice())
+    put_lines(text, screen.columns, &[], screen.lines.as_slice())
 }
 
 #[tactic(auto, unfolding(crate::specs::Screen::changes))]
@@ -66,7 +99,12 @@ fn put_changes(text: &mut Text, before: &Screen, after: &Screen) -> Result<(), A
     ensures { OnOk result (text.new ≡ text.old ++ spec.changes before.now after.now) }
 {
     put_changed_rows(text, &before.picture, &after.picture)?;
-    put_lines(text, before.lines.as_slice(), after.lines.as_slice())
+    put_lines(
+        text,
+        after.columns,
+        before.lines.as_slice(),
+        after.lines.as_slice(),
+    )
 }
 
 /// Puts all rows.
@@ -119,35 +157,57 @@ fn put_drawn_row(text: &mut Text, picture: &Picture, row: usize) -> Result<(), A
 
 /// Puts the lines below the picture that differ.
 #[tactic(auto, unfolding(crate::specs::Screen::changed_lines))]
-fn put_lines(text: &mut Text, before: &[Text], after: &[Text]) -> Result<(), AllocError>
-    ensures { OnOk result (text.new ≡ text.old ++ spec.changed_lines before.now after.now) }
+fn put_lines(
+    text: &mut Text,
+    columns: usize,
+    before: &[Text],
+    after: &[Text],
+) -> Result<(), AllocError>
+    ensures { OnOk result (text.new ≡ text.old ++ spec.changed_lines columns before.now after.now) }
 {
     for place in 0..LINES {
-        put_line(text, line_at(before, place), line_at(after, place), place)?;
+        put_line(
+            text,
+            columns,
+            line_at(before, place),
+            line_at(after, place),
+            place,
+        )?;
     }
     Ok(())
 }
 
 /// Puts the line at a place, if it is another than before.
 #[tactic(auto, unfolding(crate::specs::Screen::changed_line))]
-fn put_line(text: &mut Text, before: &[u8], after: &[u8], place: usize) -> Result<(), AllocError>
-    requires { place < 6 }
-    ensures { OnOk result (text.new ≡ text.old ++ spec.changed_line before.now after.now place) }
+fn put_line(
+    text: &mut Text,
+    columns: usize,
+    before: &[u8],
+    after: &[u8],
+    place: usize,
+) -> Result<(), AllocError>
+    requires { place < 9 }
+    ensures { OnOk result (text.new ≡ text.old ++ spec.changed_line columns before.now after.now place) }
 {
     if before == after {
         return Ok(());
     }
-    put_drawn_line(text, after, place)
+    put_drawn_line(text, columns, after, place)
 }
 
 #[tactic(auto, unfolding(crate::specs::Screen::drawn_line))]
-fn put_drawn_line(text: &mut Text, line: &[u8], place: usize) -> Result<(), AllocError>
-    requires { place < 6 }
-    ensures { OnOk result (text.new ≡ text.old ++ spec.drawn_line line.now place) }
+fn put_drawn_line(
+    text: &mut Text,
+    columns: usize,
+    line: &[u8],
+    place: usize,
+) -> Result<(), AllocError>
+    requires { place < 9 }
+    ensures { OnOk result (text.new ≡ text.old ++ spec.drawn_line columns line.now place) }
 {
     put_move(text, FIRST_LINE + place)?;
     put_clear(text)?;
-    put_fitting(text, line, WIDTH)
+    put_fitting(text, line, columns)
 }
 
 /// The line at a place; where there is none, nothing.

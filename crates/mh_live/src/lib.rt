@@ -13,9 +13,12 @@ mod hearing;
 mod live;
 mod post;
 mod record;
+mod replay;
+mod running;
 mod screen;
 
 pub use asks::{Ask, asks_of};
-pub use drawing::{put_end, screens_are_drawings};
+pub use drawing::{COLUMNS_WANTED, LINES_WANTED, put_end, put_small, screens_are_drawings};
 pub use live::Live;
+pub use post::is_sayable;
 pub use record::records_are_scripts;

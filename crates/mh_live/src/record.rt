@@ -1,11 +1,13 @@
 //! The lines of the script that is recorded: what is posted from a terminal, so that it can be played again.
-ghost use Rattle.std.specs.Prelude.{◌≡◌, ◌++◌, OnOk, IfOk};
+ghost use Rattle.std.specs.Prelude.{◌≡◌, ◌++◌, codes, OnOk, IfOk};
 ghost use Rattle.std.specs.Fmt.{signed_decimal};
+ghost use Rattle.hex.specs.Hex.{encode_lower};
 ghost use Rattle.mh_live.specs.Posts as spec;
 ghost use Rattle.mh_live.specs.Replayed.{RecordsAreScripts};
 
 use crate::post::Post;
-use mh_model::Key;
+use mh_base::GroupName;
+use mh_model::{File, Key};
 use mh_script::key_name;
 use mh_told::text::Text;
 use std::alloc::{AllocError, Global};
@@ -40,7 +42,9 @@ fn show_line(post: &Post) -> &'static [u8]
 {
     match post {
         Post::Tick(_) => b"",
-        Post::Key(_) | Post::Stream(_) | Post::Engine(_) => b"show\n",
+        Post::Key(_) | Post::Stream(_) | Post::Engine(_) | Post::Scene(_) | Post::File(_) => {
+            b"show\n"
+        }
     }
 }
 
@@ -52,7 +56,33 @@ fn put_post(alloc: Global, text: &mut Text, post: &Post) -> Result<(), AllocErro
         Post::Tick(length) => put_tick(text, *length),
         Post::Stream(tag) => put_numbered(alloc, text, b"stream ", tag),
         Post::Engine(number) => put_numbered(alloc, text, b"engine ", number),
+        Post::Scene(name) => put_scene(text, name),
+        Post::File(file) => put_file(alloc, text, file),
     }
+}
+
+fn put_scene(text: &mut Text, name: &GroupName) -> Result<(), AllocError>
+    ensures { OnOk result (text.new ≡ text.old ++ codes "scene " ++ name.now) }
+{
+    text.put(b"scene ")?;
+    text.put(name.as_bytes())
+}
+
+#[tactic(auto, unfolding(crate::specs::Posts::file_text))]
+fn put_file(alloc: Global, text: &mut Text, file: &File) -> Result<(), AllocError>
+    ensures { OnOk result (text.new ≡ text.old ++ spec.file_text file.now) }
+{
+    text.put(b"file ")?;
+    text.put(file.name.as_bytes())?;
+    text.put(b" ")?;
+    put_hex(alloc, text, file.content.as_slice())
+}
+
+fn put_hex(alloc: Global, text: &mut Text, octets: &[u8]) -> Result<(), AllocError>
+    ensures { OnOk result (text.new ≡ text.old ++ encode_lower octets.now) }
+{
+    let digits = hex::encode(alloc, octets)?;
+    text.put(digits.as_bytes())
 }
 
 fn put_key(text: &mut Text, key: Key) -> Result<(), AllocError>

@@ -9,11 +9,12 @@ use mh_told::text::Text;
 use std::alloc::{AllocError, Global};
 use std::marker::Model;
 
-/// A picture with the lines below it. A contract sees both.
+/// A picture with the lines below it, of which so many characters are shown. A contract sees all three.
 #[derive(Drop)]
 pub struct Screen {
     pub picture: Picture,
     pub lines: Vec<Text>,
+    pub columns: usize,
 }
 
 impl Model for Screen {
@@ -21,17 +22,27 @@ impl Model for Screen {
 
     ghost Value = { Screen };
 
-    ghost view = { λ s. record { picture = s.picture; lines = s.lines.items } };
+    ghost view = { λ s. record { picture = s.picture; lines = s.lines.items; columns = s.columns } };
 }
 
-/// What is to be shown of the engine.
-pub fn screen_of(alloc: Global, engine: &mut Engine) -> Result<Screen, AllocError>
-    ensures screen { IfOk result (λ screen. screen ≡ spec.screen_of engine.old) }
+/// What is to be shown of the engine, with the places of its faults and what is told below everything.
+pub fn screen_of(
+    alloc: Global,
+    engine: &mut Engine,
+    places: &[Text],
+    notice: &Text,
+    columns: usize,
+) -> Result<Screen, AllocError>
+    ensures screen { IfOk result (λ screen. screen ≡ spec.screen_of places.now notice.now columns engine.old) }
     ensures same { engine.new ≡ engine.old }
 {
-    let lines = lines_below(alloc, engine)?;
+    let lines = lines_below(alloc, engine, places, notice)?;
     let picture = copy_of(alloc, engine.picture())?;
-    Ok(Screen { picture, lines })
+    Ok(Screen {
+        picture,
+        lines,
+        columns,
+    })
 }
 
 fn copy_of(alloc: Global, picture: &Picture) -> Result<Picture, AllocError>

@@ -7,7 +7,7 @@ use Rattle.std.specs.Str.{bytes_eq}
 use Rattle.clap.specs.Words.{App, Row, Rule, Text, all_of, first_of, new_app, new_rule, with_rule, with_subcommand}
 use Rattle.clap.specs.declared.builder.action.ArgAction.TheVariants.{Append, Set}
 use Rattle.clap.specs.declared.builder.value_parser.ValueParser.TheVariants as parser
-use Rattle.mh_command.specs.Arguments.{bare, flag, folder, named, path, script, with_choices}
+use Rattle.mh_command.specs.Arguments.{bare, flag, folder, named, number, path, script, with_choices}
 use Rattle.mh_command.specs.Values.{is_set, named_in, number_in, text_of}
 use Rattle.mh_lint.specs.declared.rule.Allowed.{Allowed}
 use Rattle.mh_lint.specs.declared.rule.Rule.{Rule as NoteRule}
@@ -33,6 +33,10 @@ subject = path (codes "PATH")
 
 abbrev pub subject_folder : Rule
 subject_folder = record (new_rule (codes "DIR")) { action = Some Set }
+
+-- the most refusals that can be asked for
+abbrev pub most_refusals : ℕ
+most_refusals = 1000
 
 -- the largest number that a frame can be asked for under
 abbrev pub last_frame : ℕ
@@ -69,6 +73,10 @@ allow = record (new_rule (codes "allow")) { long = Some (codes "allow"); action 
 -- the form of findings: the words that there are for that are not told by `clap`
 abbrev pub format : Rule
 format = record (named (codes "format")) { defaults = codes "text" ∷ [] }
+
+-- the most refusals that are told
+abbrev pub most : Rule
+most = number (codes "most") (codes "20") most_refusals
 
 -- The subcommands.
 
@@ -108,7 +116,7 @@ abbrev pub check_rules : App
 check_rules = with_rule (with_rule check_service all) allow
 
 abbrev pub check : App
-check = with_rule (with_rule check_rules format) color
+check = with_rule (with_rule (with_rule check_rules format) most) color
 
 abbrev pub with_views : App
 with_views = with_subcommand (with_subcommand (bare (codes "redlook")) show.top) page.top
@@ -149,7 +157,7 @@ pub data Asked : Type 0 where
   compared : (first second : Text) (lines : Bool) → Asked
   explained : Explained → Asked
   linted : Looked → Asked
-  judged : (looked : Looked) (format : Text) → Asked
+  judged : (looked : Looked) (format : Text) (most : ℕ) → Asked
 
 abbrev pub frame_of : List Row → Option ℕ
 frame_of rows = option_map (number_in last_frame 0) (first_of (codes "frame") rows)
@@ -217,11 +225,15 @@ allowed rows = record {
   negative_size = allows rows rule.NegativeSize;
   colour_octets = allows rows rule.ColourOctets;
   unheard_timer = allows rows rule.UnheardTimer;
+  locked_for_ever = allows rows rule.LockedForEver;
   unread_variable = allows rows rule.UnreadVariable;
+  no_interaction = allows rows rule.NoInteraction;
   off_screen = allows rows rule.OffScreen;
   covers_no_cell = allows rows rule.CoversNoCell;
   cut_text = allows rows rule.CutText;
   text_in_its_colour = allows rows rule.TextInItsColour;
+  bare_line_feeds = allows rows rule.BareLineFeeds;
+  named_alike = allows rows rule.NamedAlike;
   content_to_come = allows rows rule.ContentToCome;
 }
 
@@ -240,7 +252,7 @@ abbrev pub linting : List Row → Asked
 linting rows = linted (looking rows)
 
 abbrev pub checking : List Row → Asked
-checking rows = judged (looking rows) (text_of (codes "format") rows)
+checking rows = judged (looking rows) (text_of (codes "format") rows) (number_in most_refusals 0 (text_of (codes "most") rows))
 
 -- the rule that is meant by a name, if one is like it
 
@@ -288,4 +300,4 @@ said (task.Image report frame folder) = drawn report.now frame (named_in folder)
 said (task.Diff first second lines) = compared first.now second.now lines
 said (task.Why e) = explained (explained_as e)
 said (task.Lint l) = linted (looked_as l)
-said (task.Check k) = judged (looked_as k.lint) k.format.now
+said (task.Check k) = judged (looked_as k.lint) k.format.now k.most

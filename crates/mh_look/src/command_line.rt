@@ -65,6 +65,8 @@ pub struct Check<'a> {
     pub lint: Lint<'a>,
     /// The form.
     pub format: &'a str,
+    /// The most refusals that are told.
+    pub most: usize,
 }
 
 /// What is looked for in a service.

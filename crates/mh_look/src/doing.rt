@@ -7,9 +7,9 @@ pub(crate) mod linting;
 
 use crate::command_line::Task;
 use crate::comparison::compared;
-use crate::doing::checking::checked;
-use crate::doing::explaining::explained;
-use crate::doing::linting::linted;
+use crate::doing::checking::run_check;
+use crate::doing::explaining::run_why;
+use crate::doing::linting::run_lint;
 use crate::image::image_of;
 use crate::page::page_of;
 use crate::report::frames::frame_at;
@@ -52,7 +52,7 @@ impl Outcome {
 }
 
 /// Does a task, and answers what came of it. Whether a terminal reads what is written is told by the caller.
-pub fn done<R: Runtime + AllocGlobal>(
+pub fn run_task<R: Runtime + AllocGlobal>(
     rt: &R,
     task: &Task,
     is_terminal: bool,
@@ -62,25 +62,25 @@ pub fn done<R: Runtime + AllocGlobal>(
             report,
             frame,
             plain,
-        } => shown(rt, report, *frame, *plain),
-        Task::Page { report, script } => paged(rt, report, *script),
+        } => run_show(rt, report, *frame, *plain),
+        Task::Page { report, script } => run_page(rt, report, *script),
         Task::Image {
             report,
             frame,
             folder,
-        } => drawn(rt, report, *frame, *folder),
+        } => run_draw(rt, report, *frame, *folder),
         Task::Diff {
             first,
             second,
             lines,
-        } => held(rt, first, second, *lines),
-        Task::Why(asked) => explained(rt, asked, is_terminal),
-        Task::Lint(wanted) => linted(rt, wanted, is_terminal),
-        Task::Check(wanted) => checked(rt, wanted, is_terminal),
+        } => run_diff(rt, first, second, *lines),
+        Task::Why(asked) => run_why(rt, asked, is_terminal),
+        Task::Lint(wanted) => run_lint(rt, wanted, is_terminal),
+        Task::Check(wanted) => run_check(rt, wanted, is_terminal),
     }
 }
 
-fn shown<R: Runtime + AllocGlobal>(
+fn run_show<R: Runtime + AllocGlobal>(
     rt: &R,
     name: &str,
     frame: Option<u64>,
@@ -105,10 +105,10 @@ fn show_report<R: Runtime + AllocGlobal>(
         }
         None => put_report(&mut text, report, plain)?,
     }
-    written(rt, &text, Outcome::Written)
+    write_text(rt, &text, Outcome::Written)
 }
 
-fn paged<R: Runtime + AllocGlobal>(
+fn run_page<R: Runtime + AllocGlobal>(
     rt: &R,
     name: &str,
     script: Option<&str>,
@@ -128,11 +128,11 @@ fn write_page<R: Runtime + AllocGlobal>(
         None => Vec::new(rt.alloc()),
     };
     let page = page_of(rt.alloc(), report, script.as_slice())?;
-    written(rt, &page, Outcome::Written)
+    write_text(rt, &page, Outcome::Written)
 }
 
 /// Writes a frame as an image, or all frames into a folder.
-fn drawn<R: Runtime + AllocGlobal>(
+fn run_draw<R: Runtime + AllocGlobal>(
     rt: &R,
     name: &str,
     frame: Option<u64>,
@@ -150,23 +150,23 @@ fn draw_report<R: Runtime + AllocGlobal>(
     name: &str,
 ) -> Result<Outcome, Failure> {
     match folder {
-        Some(folder) => drawn_into(rt, report, frame, folder, name),
-        None => drawn_out(rt, report, frame.ok_or(Failure::NoFolder)?),
+        Some(folder) => write_images(rt, report, frame, folder, name),
+        None => write_image(rt, report, frame.ok_or(Failure::NoFolder)?),
     }
 }
 
 /// Writes the image of a frame to standard output.
-fn drawn_out<R: Runtime + AllocGlobal>(
+fn write_image<R: Runtime + AllocGlobal>(
     rt: &R,
     report: &Report,
     number: u64,
 ) -> Result<Outcome, Failure> {
     let file = image_of(rt.alloc(), picture_of(report, number)?)?;
-    written(rt, &file, Outcome::Written)
+    write_text(rt, &file, Outcome::Written)
 }
 
 /// Writes the images of a frame, or of all frames, into a folder, which is made if it is not there.
-fn drawn_into<R: Runtime + AllocGlobal>(
+fn write_images<R: Runtime + AllocGlobal>(
     rt: &R,
     report: &Report,
     frame: Option<u64>,
@@ -230,17 +230,17 @@ fn image_path(
 }
 
 /// Writes what is said of two reports.
-fn held<R: Runtime + AllocGlobal>(
+fn run_diff<R: Runtime + AllocGlobal>(
     rt: &R,
     first: &str,
     second: &str,
     lines: bool,
 ) -> Result<Outcome, Failure> {
     let first = report_of(rt, first)?;
-    held_against(rt, &first, second, lines)
+    compare_with(rt, &first, second, lines)
 }
 
-fn held_against<R: Runtime + AllocGlobal>(
+fn compare_with<R: Runtime + AllocGlobal>(
     rt: &R,
     first: &Report,
     second: &str,
@@ -262,7 +262,7 @@ fn write_comparison<R: Runtime + AllocGlobal>(
     } else {
         Outcome::Written
     };
-    written(rt, &comparison.text, outcome)
+    write_text(rt, &comparison.text, outcome)
 }
 
 /// The picture of the frame with this number.
@@ -271,7 +271,7 @@ fn picture_of(report: &Report, number: u64) -> Result<&Picture, Failure> {
 }
 
 /// Writes the text to standard output, and answers what came of it.
-pub(crate) fn written<R: Runtime>(
+pub(crate) fn write_text<R: Runtime>(
     rt: &R,
     text: &Text,
     outcome: Outcome,

@@ -21,7 +21,7 @@ pub use comparison::telling::told;
 pub use comparison::{Comparison, compared};
 pub use doing::answering::{Answer, Read, answer_of};
 pub use doing::checking::{format_named, list_of};
-pub use doing::{Outcome, done};
+pub use doing::{Outcome, run_task};
 pub use image::checksum::{Adler, Crc};
 pub use image::font::is_inked;
 pub use image::image_of;

@@ -5,6 +5,7 @@ pub mod Nearest
 pub mod Slips
 pub mod Pieces
 pub mod Goals
+pub mod Held
 pub mod LimitsOf
 pub mod Words
 pub mod Unknown

@@ -35,8 +35,12 @@ use Rattle.mh_misread.specs.Telling.{marked, written, escaped, character_of, byt
 unfoldable pub separator_mend : ℕ → List ℕ
 separator_mend b = codes "take " ++ byte_words b ++ codes " away"
 
+-- a line break within it, where a string can have one
+unfoldable pub break_mend : ℕ → List ℕ
+break_mend mark = if mark == 39 then told.BREAK_WITHIN.now else []
+
 unfoldable pub string_mend : ℕ → List ℕ
-string_mend mark = codes "write " ++ marked (mark ∷ []) ++ told.WHERE_STRING_ENDS.now
+string_mend mark = codes "write " ++ marked (mark ∷ []) ++ told.WHERE_STRING_ENDS.now ++ break_mend mark
 
 unfoldable pub escape_mend : List ℕ → List ℕ
 escape_mend bs = codes "write " ++ escaped bs ++ told.IN_ITS_PLACE.now
@@ -60,7 +64,11 @@ slip_mend file offset slip.Escape = told.ESCAPE_MEND.now
 slip_mend file offset slip.Colon = told.COLON_MEND.now
 slip_mend file offset slip.Minus = told.MINUS_MEND.now
 slip_mend file offset slip.Point = told.POINT_MEND.now
+slip_mend file offset (slip.Operator b) = told.OPERATOR_MEND.now
 slip_mend file offset (slip.Byte b) = told.BYTE_MEND.now
+
+unfoldable pub holds_mend : Name → List ℕ
+holds_mend n = told.END_STRING_BEFORE.now ++ written n
 
 unfoldable pub name_mend : Name → List ℕ
 name_mend n = codes "write " ++ written n
@@ -160,6 +168,7 @@ mend file offset (misread.Slip s) = slip_mend file offset s
 mend file offset (misread.NoColon n) = name_mend n
 mend file offset (misread.Unknown g n) = unknown_mend file offset g n
 mend file offset misread.BehindString = told.BEHIND_STRING_MEND.now
+mend file offset (misread.HoldsKeyword n) = holds_mend n
 mend file offset (misread.KeyName k) = key_mend k
 mend file offset misread.Tight = told.TIGHT_MEND.now
 mend file offset misread.Behind = told.BEHIND_MEND.now

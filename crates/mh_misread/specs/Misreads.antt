@@ -14,6 +14,7 @@ use Rattle.mh_group.specs.Table.{shape_of, takes, required_of, is_group_class}
 use Rattle.mh_text.specs.declared.token.kind.TokenKind.{TokenKind}
 use Rattle.mh_text.specs.declared.token.kind.TokenKind.TheVariants as token_kind
 use Rattle.mh_text.specs.Left.{Lexed, token, lexed}
+use Rattle.mh_misread.specs.declared.name.Name.{Name}
 use Rattle.mh_misread.specs.declared.name.Name.TheVariants as name
 use Rattle.mh_misread.specs.declared.piece.Sign.{Sign}
 use Rattle.mh_misread.specs.declared.piece.Sign.TheVariants as sign
@@ -29,6 +30,7 @@ use Rattle.mh_misread.specs.declared.misread.Misread.TheVariants as misread
 use Rattle.mh_misread.specs.Pieces.{sign_of, pieces_before, is_keyword_of}
 use Rattle.mh_misread.specs.Goals.{part_at, wanted_behind}
 use Rattle.mh_misread.specs.Slips.{slip_of}
+use Rattle.mh_misread.specs.Held.{first_keyword, last_start}
 use Rattle.mh_misread.specs.Unknown.{unknown}
 use Rattle.mh_text.specs.Bytes.{is_letter_or_digit}
 
@@ -233,10 +235,31 @@ range_at None = None
 unfoldable pub out_of_range : List ℕ → ℕ → Option Misread
 out_of_range file offset = range_at (top_of (wanted_behind (pieces_before file offset)))
 
+-- the keyword in the string that ends right in front of the offset, if one does
+unfoldable pub held_before : List ℕ → ℕ → Option Name
+held_before file offset =
+    if ends_string (take offset file) then first_keyword (drop (last_start (pieces_before file offset)) (take offset file)) else None
+
+-- what is wrong with the token itself
+unfoldable pub own_misread : List ℕ → ℕ → ℕ → Option Misread
+own_misread file offset number =
+    if number == 20 then option_map misread.Slip (slip_of (drop offset file))
+    else (if number == 21 then Some (syntax file offset) else unknown_name file offset)
+
+abbrev pub held_or : Option Name → Option Misread → Option Misread
+held_or (Some n) own = Some (misread.HoldsKeyword n)
+held_or None own = own
+
+-- a string in front that holds a keyword is the first cause
+unfoldable pub token_misread : List ℕ → ℕ → ℕ → Option Misread
+token_misread file offset number = held_or (held_before file offset) (own_misread file offset number)
+
+-- it is at a token that reading stopped
+abbrev pub is_of_token : ℕ → Bool
+is_of_token number = number == 20 || (number == 21 || number == 22)
+
 -- what is wrong with a file that is refused at the offset by the number; none where no case is known
 unfoldable pub misread_of : List ℕ → ℕ → ℕ → Option Misread
 misread_of file offset number =
-    if number == 20 then option_map misread.Slip (slip_of (drop offset file))
-    else (if number == 21 then Some (syntax file offset)
-    else (if number == 22 then unknown_name file offset
-    else (if number == 23 then out_of_range file offset else None)))
+    if is_of_token number then token_misread file offset number
+    else (if number == 23 then out_of_range file offset else None)

@@ -23,4 +23,6 @@ slip_of (b ∷ bs) =
     else (if b == 45 then Some slip.Minus
     else (if b == 35 || b == 47 then Some (slip.Comment b)
     else (if b == 44 || b == 59 then Some (slip.Separator b)
-    else (if b == 46 then Some slip.Point else Some (slip.Byte b)))))))
+    else (if b == 46 then Some slip.Point
+    else (if b == 60 || b == 61 then Some (slip.Operator b)
+    else (if b == 33 || b == 62 then Some (slip.Operator b) else Some (slip.Byte b)))))))))

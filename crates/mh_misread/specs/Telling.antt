@@ -23,6 +23,7 @@ use Rattle.mh_misread.specs.declared.misread.Misread.{Misread}
 use Rattle.mh_misread.specs.declared.misread.Misread.TheVariants as misread
 use Rattle.mh_misread.specs.declared.phrases.TheConstants as told
 use Rattle.mh_misread.specs.Names.{word_of}
+use Rattle.mh_misread.specs.Held.{first_keyword, line_of}
 use Rattle.mh_misread.specs.Goals.{part_at}
 use Rattle.mh_misread.specs.LimitsOf.{limits_of}
 use Rattle.mh_misread.specs.Misreads.{first_token}
@@ -185,8 +186,14 @@ comment_cause b = told.COMMENTS_BEGIN.now ++ byte_words b
 unfoldable pub separator_cause : ℕ → List ℕ
 separator_cause b = told.BETWEEN_ITEMS.now ++ byte_words b
 
+-- the keyword that a string holds
+unfoldable pub and_holds : Option Name → List ℕ
+and_holds None = []
+and_holds (Some n) = told.AND_HOLDS.now ++ written n
+
 unfoldable pub string_cause : List ℕ → ℕ → List ℕ
-string_cause file offset = told.STRING_BEGINS.now ++ line_words file offset ++ told.DOES_NOT_END.now
+string_cause file offset =
+    told.STRING_BEGINS.now ++ line_words file offset ++ told.DOES_NOT_END.now ++ and_holds (first_keyword (line_of (drop offset file)))
 
 unfoldable pub string_byte_cause : ℕ → List ℕ
 string_byte_cause b = told.STRING_HAS.now ++ byte_words b ++ told.IN_NO_STRING.now
@@ -203,6 +210,7 @@ slip_cause file offset slip.Escape = told.ESCAPE_CAUSE.now
 slip_cause file offset slip.Colon = told.COLON_CAUSE.now
 slip_cause file offset slip.Minus = told.MINUS_CAUSE.now
 slip_cause file offset slip.Point = told.POINT_CAUSE.now
+slip_cause file offset (slip.Operator b) = byte_cause b
 slip_cause file offset (slip.Byte b) = byte_cause b
 
 unfoldable pub no_colon_cause : Name → List ℕ
@@ -213,6 +221,9 @@ unknown_cause file offset = told.NO_TABLE_HAS.now ++ found file offset
 
 unfoldable pub behind_string_cause : List ℕ → ℕ → List ℕ
 behind_string_cause file offset = found file offset ++ told.RIGHT_BEHIND_STRING.now
+
+unfoldable pub holds_cause : Name → List ℕ
+holds_cause n = told.STRING_HOLDS.now ++ written n
 
 unfoldable pub key_cause : List ℕ → ℕ → List ℕ
 key_cause file offset = found file offset ++ told.IS_A_KEY.now
@@ -250,6 +261,7 @@ cause file offset (misread.Slip s) = slip_cause file offset s
 cause file offset (misread.NoColon n) = no_colon_cause n
 cause file offset (misread.Unknown g n) = unknown_cause file offset
 cause file offset misread.BehindString = behind_string_cause file offset
+cause file offset (misread.HoldsKeyword n) = holds_cause n
 cause file offset (misread.KeyName k) = key_cause file offset
 cause file offset misread.Tight = tight_cause file offset
 cause file offset misread.Behind = behind_cause file offset

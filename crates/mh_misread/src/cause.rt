@@ -1,21 +1,24 @@
 //! What is told of a misread text: what was found, and what is wanted. It has no full stop.
 ghost use Rattle.std.specs.Prelude.{◌≡◌, ◌++◌, OnOk};
-ghost use Rattle.mh_misread.specs.Telling.{comment_cause, separator_cause, string_cause, string_byte_cause, byte_cause, slip_cause, no_colon_cause, unknown_cause, behind_string_cause, key_cause, tight_cause, behind_cause, end_cause, unclosed_cause, not_taken_cause, twice_cause, lacks_cause, unwanted_cause, range_cause, cause};
+ghost use Rattle.mh_misread.specs.Telling.{and_holds, holds_cause, comment_cause, separator_cause, string_cause, string_byte_cause, byte_cause, slip_cause, no_colon_cause, unknown_cause, behind_string_cause, key_cause, tight_cause, behind_cause, end_cause, unclosed_cause, not_taken_cause, twice_cause, lacks_cause, unwanted_cause, range_cause, cause};
 
 use crate::found::{
     put_bracket_words, put_byte_words, put_found, put_keyword_written, put_line_words, put_marked,
+    put_written,
 };
 use crate::goal::Goal;
 use crate::limits::limits_of;
 use crate::misread::Misread;
 use crate::name::Name;
 use crate::phrases::{
-    BARE_NAME_CAUSE, BETWEEN_ITEMS, COLON_CAUSE, COMMENTS_BEGIN, DOES_NOT_END, ENDS_WITHOUT,
-    ESCAPE_CAUSE, IN_NO_STRING, IN_PLACE_OF, IS_A_KEY, IS_NO_FIELD, MINUS_CAUSE, NO_TABLE_HAS,
-    NOTHING_BEGINS, POINT_CAUSE, RIGHT_BEHIND_STRING, SPACE_LACKS, STANDS_BEHIND, STANDS_HERE,
-    STANDS_IN_THIS, STRING_BEGINS, STRING_HAS, TEXT_ENDS, WANTS_COLON,
+    AND_HOLDS, BARE_NAME_CAUSE, BETWEEN_ITEMS, COLON_CAUSE, COMMENTS_BEGIN, DOES_NOT_END,
+    ENDS_WITHOUT, ESCAPE_CAUSE, IN_NO_STRING, IN_PLACE_OF, IS_A_KEY, IS_NO_FIELD, MINUS_CAUSE,
+    NO_TABLE_HAS, NOTHING_BEGINS, POINT_CAUSE, RIGHT_BEHIND_STRING, SPACE_LACKS, STANDS_BEHIND,
+    STANDS_HERE, STANDS_IN_THIS, STRING_BEGINS, STRING_HAS, STRING_HOLDS, TEXT_ENDS, WANTS_COLON,
 };
 use crate::slip::Slip;
+use crate::slip::held::{first_keyword, line_of};
+use crate::span::behind;
 use crate::wanted::put_wanted;
 use crate::words::limits_words;
 use mh_group::{Attribute, Class};
@@ -47,7 +50,22 @@ fn put_string_cause(text: &mut Text, file: &[u8], offset: usize) -> Result<(), A
 {
     text.put(STRING_BEGINS)?;
     put_line_words(text, file, offset)?;
-    text.put(DOES_NOT_END)
+    text.put(DOES_NOT_END)?;
+    put_and_holds(text, first_keyword(line_of(behind(file, offset))))
+}
+
+/// Puts the keyword that a string holds.
+#[tactic(auto, unfolding(crate::specs::Telling::and_holds))]
+fn put_and_holds(text: &mut Text, keyword: Option<Name>) -> Result<(), AllocError>
+    ensures { OnOk result (text.new ≡ text.old ++ and_holds keyword) }
+{
+    match keyword {
+        None => Ok(()),
+        Some(name) => {
+            text.put(AND_HOLDS)?;
+            put_written(text, name)
+        }
+    }
 }
 
 /// Puts that no string has this byte.
@@ -83,6 +101,7 @@ fn put_slip_cause(text: &mut Text, file: &[u8], offset: usize, slip: Slip) -> Re
         Slip::Colon => text.put(COLON_CAUSE),
         Slip::Minus => text.put(MINUS_CAUSE),
         Slip::Point => text.put(POINT_CAUSE),
+        Slip::Operator(byte) => put_byte_cause(text, byte),
         Slip::Byte(byte) => put_byte_cause(text, byte),
     }
 }
@@ -112,6 +131,15 @@ fn put_behind_string_cause(text: &mut Text, file: &[u8], offset: usize) -> Resul
 {
     put_found(text, file, offset)?;
     text.put(RIGHT_BEHIND_STRING)
+}
+
+/// Puts which keyword a string holds that ends in front of the place.
+#[tactic(auto, unfolding(crate::specs::Telling::holds_cause))]
+fn put_holds_cause(text: &mut Text, name: Name) -> Result<(), AllocError>
+    ensures { OnOk result (text.new ≡ text.old ++ holds_cause name) }
+{
+    text.put(STRING_HOLDS)?;
+    put_written(text, name)
 }
 
 /// Puts that it is the name of a key.
@@ -248,6 +276,7 @@ pub fn put_cause(
         Misread::NoColon(name) => put_no_colon_cause(text, name),
         Misread::Unknown(_, _) => put_unknown_cause(text, file, offset),
         Misread::BehindString => put_behind_string_cause(text, file, offset),
+        Misread::HoldsKeyword(name) => put_holds_cause(text, name),
         Misread::KeyName(_) => put_key_cause(text, file, offset),
         Misread::Tight => put_tight_cause(text, file, offset),
         Misread::Behind => put_behind_cause(text, file, offset),

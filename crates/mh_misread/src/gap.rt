@@ -38,7 +38,7 @@ fn is_bare_byte(byte: Option<u8>) -> bool
     }
 }
 
-fn is_letter_or_digit(byte: u8) -> bool
+pub(crate) fn is_letter_or_digit(byte: u8) -> bool
     ensures { result ≡ is_letter_or_digit byte }
 {
     matches!(byte, b'A'..=b'Z' | b'a'..=b'z') || matches!(byte, b'0'..=b'9')

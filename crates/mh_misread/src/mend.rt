@@ -1,6 +1,6 @@
 //! How a misread text is mended. What is told has no full stop.
 ghost use Rattle.std.specs.Prelude.{◌≡◌, ◌++◌, OnOk};
-ghost use Rattle.mh_misread.specs.Mending.{name_mend, key_mend, fields_mend, events_mend, plain_mend, is_event_shape, is_event_part, event_mend, wanted_mend, unknown_mend, open_mend, is_in_reference, row_for, closing, closing_mend, not_taken_mend, lacks_mend, unwanted_mend, range_mend, mend};
+ghost use Rattle.mh_misread.specs.Mending.{holds_mend, name_mend, key_mend, fields_mend, events_mend, plain_mend, is_event_shape, is_event_part, event_mend, wanted_mend, unknown_mend, open_mend, is_in_reference, row_for, closing, closing_mend, not_taken_mend, lacks_mend, unwanted_mend, range_mend, mend};
 
 use crate::found::{put_marked, put_written};
 use crate::goal::Goal;
@@ -10,8 +10,8 @@ use crate::name::Name;
 use crate::nearest::alike::{name_found, put_alike_for};
 use crate::part::{Part, Row, part_at};
 use crate::phrases::{
-    BARE_NAME_MEND, BEHIND_MEND, BEHIND_STRING_MEND, ONE_OF_EVENTS, ONE_OF_FIELDS, TAKE_AWAY_OR,
-    TIGHT_MEND, TWICE_MEND, WHERE_IT_ENDS, WRITE_ITS,
+    BARE_NAME_MEND, BEHIND_MEND, BEHIND_STRING_MEND, END_STRING_BEFORE, ONE_OF_EVENTS,
+    ONE_OF_FIELDS, TAKE_AWAY_OR, TIGHT_MEND, TWICE_MEND, WHERE_IT_ENDS, WRITE_ITS,
 };
 use crate::slip::mend::put_slip_mend;
 use crate::span::behind;
@@ -30,6 +30,15 @@ fn put_name_mend(text: &mut Text, name: Name) -> Result<(), AllocError>
     ensures { OnOk result (text.new ≡ text.old ++ name_mend name) }
 {
     text.put(b"write ")?;
+    put_written(text, name)
+}
+
+/// Puts where the string ends that holds the keyword.
+#[tactic(auto, unfolding(crate::specs::Mending::holds_mend))]
+fn put_holds_mend(text: &mut Text, name: Name) -> Result<(), AllocError>
+    ensures { OnOk result (text.new ≡ text.old ++ holds_mend name) }
+{
+    text.put(END_STRING_BEFORE)?;
     put_written(text, name)
 }
 
@@ -214,6 +223,7 @@ pub fn put_mend(
         Misread::NoColon(name) => put_name_mend(text, name),
         Misread::Unknown(goal, near) => put_unknown_mend(text, file, offset, goal, near),
         Misread::BehindString => text.put(BEHIND_STRING_MEND),
+        Misread::HoldsKeyword(name) => put_holds_mend(text, name),
         Misread::KeyName(key) => put_key_mend(text, key),
         Misread::Tight => text.put(TIGHT_MEND),
         Misread::Behind => text.put(BEHIND_MEND),

@@ -4,11 +4,12 @@ ghost use Rattle.std.specs.List.{find};
 ghost use Rattle.std.specs.Option.{option_map};
 ghost use Rattle.mh_misread.specs.Goals.{wanted_behind};
 ghost use Rattle.mh_misread.specs.Pieces.{pieces_before};
-ghost use Rattle.mh_misread.specs.Misreads.{misread_of, syntax, syntax_at, unknown_name, unknown_at, out_of_range, range_at, first_token, top_of, is_behind_string, ends_string, is_string_mark, is_word};
+ghost use Rattle.mh_misread.specs.Misreads.{misread_of, is_of_token, own_misread, token_misread, syntax, syntax_at, unknown_name, unknown_at, out_of_range, range_at, first_token, top_of, is_behind_string, ends_string, is_string_mark, is_word};
 
 use crate::goal::{Frame, Goal};
 use crate::name::Name;
 use crate::piece::pieces_before;
+use crate::slip::held::held_before;
 use crate::slip::{Slip, slip_of};
 use crate::span::{behind, front};
 use crate::stack::Stack;
@@ -31,6 +32,8 @@ pub enum Misread {
     Unknown(Goal, Option<Name>),
     /// A word right behind the end of a string.
     BehindString,
+    /// What stands right behind a string that holds this keyword.
+    HoldsKeyword(Name),
     /// A key by its name, where its number is wanted.
     KeyName(Key),
     /// No white space stands in front of the token.
@@ -65,12 +68,52 @@ pub fn misread_of(
 ) -> Result<Option<Misread>, AllocError>
     ensures { IfOk result (λ misread. misread ≡ misread_of file.now offset number) }
 {
+    if is_of_token(number) {
+        return token_misread(alloc, file, offset, number);
+    }
+    if number == 23 {
+        return out_of_range(alloc, file, offset);
+    }
+    Ok(None)
+}
+
+/// Whether it is at a token that reading stopped, by the number of the refusal.
+fn is_of_token(number: u32) -> bool
+    ensures { result ≡ is_of_token number }
+{
+    number == 20 || number == 21 || number == 22
+}
+
+/// What is wrong at a token; a string in front that holds a keyword is the first cause.
+#[tactic(auto, unfolding(crate::specs::Misreads::token_misread))]
+fn token_misread(
+    alloc: Global,
+    file: &[u8],
+    offset: usize,
+    number: u32,
+) -> Result<Option<Misread>, AllocError>
+    ensures { IfOk result (λ misread. misread ≡ token_misread file.now offset number) }
+{
+    match held_before(alloc, file, offset)? {
+        Some(name) => Ok(Some(Misread::HoldsKeyword(name))),
+        None => own_misread(alloc, file, offset, number),
+    }
+}
+
+/// What is wrong with the token itself.
+#[tactic(auto, unfolding(crate::specs::Misreads::own_misread))]
+fn own_misread(
+    alloc: Global,
+    file: &[u8],
+    offset: usize,
+    number: u32,
+) -> Result<Option<Misread>, AllocError>
+    ensures { IfOk result (λ misread. misread ≡ own_misread file.now offset number) }
+{
     match number {
         20 => Ok(slip_of(behind(file, offset)).map(Misread::Slip)),
         21 => Ok(Some(syntax(alloc, file, offset)?)),
-        22 => unknown_name(alloc, file, offset),
-        23 => out_of_range(alloc, file, offset),
-        _ => Ok(None),
+        _ => unknown_name(alloc, file, offset),
     }
 }
 
@@ -96,7 +139,7 @@ fn is_behind_string(before: &[u8], bytes: &[u8]) -> bool
     }
 }
 
-fn ends_string(bytes: &[u8]) -> bool
+pub(crate) fn ends_string(bytes: &[u8]) -> bool
     ensures { result ≡ ends_string bytes.now }
 {
     is_string_mark(bytes.last().copied())

@@ -29,6 +29,12 @@ pub const STRING_BEGINS: &[u8] = b"the string that begins in ";
 
 pub const DOES_NOT_END: &[u8] = b" does not end in that line";
 
+pub const AND_HOLDS: &[u8] = b"; it holds ";
+
+pub const STRING_HOLDS: &[u8] = b"the string that ends in front of this holds ";
+
+pub const END_STRING_BEFORE: &[u8] = b"write the mark that ends it in front of ";
+
 pub const STRING_HAS: &[u8] = b"this string has ";
 
 pub const IN_NO_STRING: &[u8] = b", which stands for itself in no string";
@@ -71,6 +77,8 @@ pub const BARE_NAME_CAUSE: &[u8] = b"a name stands here without brackets of its 
 
 pub const WHERE_STRING_ENDS: &[u8] = b" where the string ends";
 
+pub const BREAK_WITHIN: &[u8] = b", and `=0D` for a line break within it";
+
 pub const IN_ITS_PLACE: &[u8] = b" in the place of this character";
 
 pub const BETWEEN_APOSTROPHES: &[u8] = b"write the string between `'`, and ";
@@ -84,6 +92,9 @@ pub const ESCAPE_MEND: &[u8] = b"write two digits, as in `=E4`, or `=3D` for the
 pub const COLON_MEND: &[u8] = b"write the name of the keyword behind it, or take it away";
 
 pub const MINUS_MEND: &[u8] = b"write the number behind it, or take it away";
+
+pub const OPERATOR_MEND: &[u8] =
+    b"take it away; a test takes the number of its operator: 1 is equal, 2 not equal, 3 less, 4 less or equal, 5 greater, 6 greater or equal";
 
 pub const BYTE_MEND: &[u8] = b"take it away, or write it in a string";
 

@@ -1,5 +1,6 @@
 //! `Slip`: what is wrong at a place where no token begins.
 
+pub(crate) mod held;
 pub(crate) mod mend;
 
 ghost use Rattle.std.specs.Prelude.{◌≡◌, ◌≤◌, length};
@@ -26,6 +27,8 @@ pub enum Slip {
     Minus,
     /// A full stop, which is part of no number.
     Point,
+    /// A sign with which other notations compare or assign.
+    Operator(u8),
     /// Any other byte.
     Byte(u8),
 }
@@ -44,6 +47,8 @@ pub(crate) fn slip_of(bytes: &[u8]) -> Option<Slip>
         b'#' | b'/' => Slip::Comment(*first),
         b',' | b';' => Slip::Separator(*first),
         b'.' => Slip::Point,
+        b'<' | b'=' => Slip::Operator(*first),
+        b'!' | b'>' => Slip::Operator(*first),
         byte => Slip::Byte(byte),
     })
 }

@@ -3,3 +3,4 @@ mod FrameLemmas
 mod HeadLemmas
 mod NumberLemmas
 mod PositionLemmas
+mod CountingLemmas

@@ -5,6 +5,7 @@ use Rattle.std.proofs.lemmas.Bool.Decides.{eqb_tells}
 use Rattle.std.proofs.lemmas.List.{at_drop_more}
 use Rattle.mh_protocol.specs.declared.position.Unit.{Unit}
 use Rattle.mh_protocol.specs.declared.position.Position.{Position}
+use Rattle.mh_protocol.specs.Counting.{onto}
 use Rattle.mh_protocol.specs.Positions.{at_first, behind_by, ends_line, further, line_start, position_in, units}
 
 pub line_start_stops : (l : ℕ) (bs : List ℕ) → l ≡ 0 → line_start l bs ≡ 0
@@ -14,12 +15,6 @@ line_start_stops l (b ∷ bs) none = ap (λ n. line_start n (b ∷ bs)) none
 pub position_stops : (e : Unit) (n : ℕ) (bs : List ℕ) → n ≡ 0 → position_in e n bs ≡ at_first
 position_stops e n [] none = refl
 position_stops e n (b ∷ bs) none = ap (λ n. position_in e n (b ∷ bs)) none
-
--- a place that is counted from another
-abbrev pub onto : Position → Position → Position
-onto p q =
-    if q.line == 0 then record { line = p.line; character = p.character + q.character }
-    else record { line = p.line + q.line; character = q.character }
 
 pub onto_first : (p : Position) → onto p at_first ≡ p
 onto_first p = λ i. record { line = p.line; character = add-zero p.character i }

@@ -5,3 +5,4 @@ pub mod Frames
 pub mod Answers
 pub mod Asked
 pub mod Uris
+pub mod Counting

@@ -5,6 +5,7 @@
 #![tactic(auto)]
 
 mod asked;
+mod counter;
 mod edit;
 mod frame;
 mod head;
@@ -13,6 +14,7 @@ mod told;
 mod uri;
 
 pub use asked::{is_set, number_at, place_at, position_of, range_of, text_at};
+pub use counter::Counter;
 pub use edit::{Range, edited};
 pub use frame::{Frame, frame_in, frames_read_back, head_for};
 pub use position::{Position, Unit, offset_at, places_lead_back, position_at};

@@ -8,3 +8,5 @@ pub mod PlainLemmas
 pub mod WrittenLemmas
 pub mod ConvertLemmas
 pub mod SealingLemmas
+pub mod SessionLemmas
+pub mod SealedPlayLemmas

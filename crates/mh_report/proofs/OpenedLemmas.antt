@@ -1,5 +1,5 @@
 -- A play from what it begins with: the commands are played, or the line says which file is refused.
-use Rattle.std.specs.Prelude.{◌≡◌, List, ℕ, Option, Result, Ok, Err, IfOk, IfErr, IsOk, OnOk, OnErr}
+use Rattle.std.specs.Prelude.{◌≡◌, List, ℕ, Option, Result, Ok, Err, IfOk, IfErr, IsErr, IsErrAnd, IsOk, OnOk, OnErr}
 use Rattle.std.proofs.Common.{subst, sym, ap, ◌∙◌}
 use Rattle.std.specs.Io.KnownBytes.{Appends}
 use Rattle.mh_report.specs.declared.play_error.PlayError.{PlayError}
@@ -10,6 +10,7 @@ use Rattle.mh_told.specs.declared.unplayable.Unplayable.{Unplayable}
 use Rattle.mh_told.specs.declared.unplayable.Unplayable.TheVariants as unplayable
 use Rattle.mh_report.specs.Sink.{IsBeginning}
 use Rattle.mh_model.specs.State.{State}
+use Rattle.mh_seal.specs.declared.seal.Seal.{Seal}
 use Rattle.mh_report.specs.Report.{Session, opening, script_lines, ended, status_of}
 use Rattle.mh_told.specs.Reading.{Fails, Gives}
 use Rattle.mh_report.specs.Presets.{begins}
@@ -17,24 +18,29 @@ use Rattle.mh_report.specs.Played.{play_lines, play_status}
 use Rattle.mh_verdict.specs.Lines.{complaint}
 use Rattle.mh_report.proofs.WrittenLemmas.{failed}
 
+-- where memory is refused, nothing is claimed
+pub unclaimed : {X Y : Type 0} (view : X → Y) (r : Result X Unplayable) (o : Result Y Unplayable) → IsErr r → IsErrAnd r (λ e. e ≡ unplayable.NoMemory) → Gives view r o
+unclaimed view (Ok x) o is _ = absurd cc
+unclaimed view (Err e) o is refused = subst (λ (u : Unplayable). Fails u o) (sym refused) tt
+
 -- A player that begins, once the files are there.
 
-fails_begins : (e : Unplayable) (r : Result State Unplayable) → Fails e r → Fails e (begins r)
-fails_begins (unplayable.File name number offset) r so = ap begins so
-fails_begins (unplayable.Service number group) r so = ap begins so
-fails_begins (unplayable.Tags number place) r so = ap begins so
-fails_begins (unplayable.Script number) r so = ap begins so
-fails_begins unplayable.NoMemory r so = tt
+fails_begins : (k : Option Seal) (e : Unplayable) (r : Result State Unplayable) → Fails e r → Fails e (begins k r)
+fails_begins k (unplayable.File name number offset) r so = ap (begins k) so
+fails_begins k (unplayable.Service number group) r so = ap (begins k) so
+fails_begins k (unplayable.Tags number place) r so = ap (begins k) so
+fails_begins k (unplayable.Script number) r so = ap (begins k) so
+fails_begins k unplayable.NoMemory r so = tt
 
 set_state : (set : Result (Unit {0}) Unplayable) (r : Result State Unplayable) (s : State) → OnOk set (r ≡ Ok s) → IsOk set → r ≡ Ok s
 set_state (Ok u) r s so good = so
 set_state (Err e) r s so good = absurd cc
 
-pub begun_player : (set : Result (Unit {0}) Unplayable) (answer : Result Session Unplayable) (r : Result State Unplayable) (s : State) (p : Session) → OnOk set (r ≡ Ok s) → IfErr set (λ why. Fails why r)
-    → p ≡ opening s → IfOk answer (λ given. given ≡ p) → OnOk answer (IsOk set) → IfErr answer (λ why. set ≡ Err why) → Gives (λ x. x) answer (begins r)
-begun_player set (Ok x) r s p so why new same good refused = ap begins (set_state set r s so good) ∙ ap Ok (sym (same ∙ new))
-begun_player set (Err e) r s p so why new same good refused =
-    fails_begins e r (subst (λ (x : Result (Unit {0}) Unplayable). IfErr x (λ w. Fails w r)) refused why)
+pub begun_player : (k : Option Seal) (set : Result (Unit {0}) Unplayable) (answer : Result Session Unplayable) (r : Result State Unplayable) (s : State) (p : Session) → OnOk set (r ≡ Ok s) → IfErr set (λ why. Fails why r)
+    → p ≡ opening k s → IfOk answer (λ given. given ≡ p) → OnOk answer (IsOk set) → IfErr answer (λ why. set ≡ Err why) → Gives (λ x. x) answer (begins k r)
+begun_player k set (Ok x) r s p so why new same good refused = ap (begins k) (set_state set r s so good) ∙ ap Ok (sym (same ∙ new))
+begun_player k set (Err e) r s p so why new same good refused =
+    fails_begins k e r (subst (λ (x : Result (Unit {0}) Unplayable). IfErr x (λ w. Fails w r)) refused why)
 
 -- The commands were played.
 

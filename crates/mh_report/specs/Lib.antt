@@ -5,3 +5,4 @@ pub mod Presets
 pub mod Played
 pub mod Converted
 pub mod Sealed
+pub mod BySeal

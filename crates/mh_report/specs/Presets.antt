@@ -7,6 +7,7 @@ use Rattle.mh_model.specs.State.{State, begun}
 use Rattle.mh_model.specs.Step.{preset, preset_obstacle}
 use Rattle.mh_machine.specs.Refusal.{refusal_for, refusal_number}
 use Rattle.mh_machine.specs.declared.refusal.RefusedWhy.{RefusedWhy}
+use Rattle.mh_seal.specs.declared.seal.Seal.{Seal}
 use Rattle.mh_told.specs.declared.unplayable.Unplayable.{Unplayable}
 use Rattle.mh_told.specs.declared.unplayable.Unplayable.TheVariants as unplayable
 use Rattle.mh_told.specs.Reading.{◌>>=◌}
@@ -34,11 +35,11 @@ abbrev pub presets : List File → State → Result State Unplayable
 presets [] s = Ok s
 presets (f ∷ fs) s = tried f s >>= (λ (t : State). presets fs t)
 
--- the session that begins in a state, if there is one
-abbrev pub begins : Result State Unplayable → Result Session Unplayable
-begins (Ok s) = Ok (opening s)
-begins (Err e) = Err e
+-- the session of an engine that goes by this seal, or by none, and that begins in a state, if there is one
+abbrev pub begins : Option Seal → Result State Unplayable → Result Session Unplayable
+begins k (Ok s) = Ok (opening k s)
+begins k (Err e) = Err e
 
 -- what a play begins with: the service has begun on this day, and then the files were put there
 unfoldable pub opened : Service → ℕ → List File → Result Session Unplayable
-opened service mjd files = begins (presets files (begun service mjd))
+opened service mjd files = begins None (presets files (begun service mjd))

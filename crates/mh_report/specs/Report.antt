@@ -6,10 +6,12 @@ use Rattle.mh_model.specs.declared.input.Input.{Input}
 use Rattle.mh_model.specs.Planes.{Planes, blank}
 use Rattle.mh_model.specs.Picture.{shown}
 use Rattle.mh_model.specs.State.{State}
-use Rattle.mh_model.specs.Step.{advanced, posted}
+use Rattle.mh_model.specs.Step.{advanced}
+use Rattle.mh_engine.specs.Posts.{posts_of}
 use Rattle.mh_machine.specs.Rest.{rest_of}
-use Rattle.mh_machine.specs.Refusal.{post_refusal, refusal_number}
+use Rattle.mh_machine.specs.Refusal.{refusal_number}
 use Rattle.mh_machine.specs.declared.refusal.RefusedWhy.{RefusedWhy}
+use Rattle.mh_seal.specs.declared.seal.Seal.{Seal}
 use Rattle.mh_script.specs.declared.script.Command.{Command}
 use Rattle.mh_script.specs.declared.script.Command.TheVariants as command
 use Rattle.mh_exit.specs.Codes.{code_of}
@@ -20,20 +22,21 @@ use Rattle.mh_report.specs.declared.status.Status.TheVariants as status
 use Rattle.mh_told.specs.Frame.{frame_text}
 use Rattle.mh_told.specs.Told.{fault_line, refused_line, did_line, total_line}
 
--- what is known between two commands: the machine's state, the frame that was shown last, and how
--- many frames were shown
+-- what is known between two commands: the seal by which the engine goes, if it goes by one, the machine's
+-- state, the frame that was shown last, and how many frames were shown
 pub record Session : Type 0 where
+  pub seal : Option Seal
   pub state : State
   pub frame : Planes
   pub frames : ℕ
 
 -- before the first command: the machine is in this state, and the frame before the first one is black
-abbrev pub opening : State → Session
-opening s = record { state = s; frame = blank; frames = 0 }
+abbrev pub opening : Option Seal → State → Session
+opening k s = record { seal = k; state = s; frame = blank; frames = 0 }
 
 -- what a command makes of the session
 abbrev pub played : Command → Session → Session
-played (command.Post i) p = record p { state = posted i p.state }
+played (command.Post i) p = record p { state = (posts_of p.seal).behind i p.state }
 played (command.Step n) p = record p { state = advanced n p.state }
 played command.Show p = record p { frame = shown p.state; frames = p.frames + 1 }
 
@@ -48,8 +51,8 @@ why_line None = []
 why_line (Some why) = number_line (refusal_number why)
 
 -- nothing is printed of a post that is taken
-abbrev pub post_lines : Input → State → List ℕ
-post_lines i s = why_line (post_refusal i s)
+abbrev pub post_lines : Input → Session → List ℕ
+post_lines i p = why_line ((posts_of p.seal).refusal i p.state)
 
 -- what happened up to this state since there were so many steps and so many faults: the faults since
 -- then, the steps, and whether there is more to do
@@ -63,7 +66,7 @@ progress_lines s t = progress_since s.taken (length s.faults) t
 
 -- what a command prints
 abbrev pub command_lines : Command → Session → List ℕ
-command_lines (command.Post i) p = post_lines i p.state
+command_lines (command.Post i) p = post_lines i p
 command_lines (command.Step n) p = progress_lines p.state (advanced n p.state)
 command_lines command.Show p = frame_text (p.frames + 1) p.frame (shown p.state)
 

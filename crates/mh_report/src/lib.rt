@@ -6,16 +6,19 @@
 //! left to `mh_told`, and to the program where the bytes come from and go to.
 #![tactic(auto)]
 
+mod by_seal;
 mod check;
 mod convert;
 mod material;
 mod options;
 mod play;
 mod play_error;
+mod playable;
 mod player;
 mod preset;
 mod reading;
 mod report;
+mod sealed_play;
 mod sealing;
 pub mod sink;
 mod status;
@@ -27,6 +30,7 @@ pub use convert::{Notation, convert_bytes};
 pub use options::Options;
 pub use play::play_bytes;
 pub use play_error::PlayError;
+pub use sealed_play::play_sealed_bytes;
 pub use sealing::seal_bytes;
 pub use sink::{ListSink, Sink, WriterSink};
 pub use status::Status;

@@ -168,7 +168,7 @@ fn play_accepted<S: Sink>(
 }
 
 /// Plays the commands, where there is a player, and else says which file is not put there.
-fn play_on<P: Plays, S: Sink>(
+pub(crate) fn play_on<P: Plays, S: Sink>(
     alloc: Global,
     player: Result<P, Unplayable>,
     commands: &[Command],

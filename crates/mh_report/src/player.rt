@@ -1,8 +1,6 @@
 //! `Player`: an engine, and what was shown of it. It does the commands of a script one by one, and writes
 //! what the report says of each.
 ghost use Rattle.std.specs.Prelude.{◌≡◌, ◌-◌, ◌<◌, ◌^◌, [], Err, IsOk, OnOk, OnErr, IfOk, IfErr, IsErrOf};
-ghost use Rattle.mh_model.specs.Planes.{blank};
-ghost use Rattle.mh_model.specs.Step.{advanced};
 ghost use Rattle.std.specs.Io.KnownBytes.{Appends};
 ghost use Rattle.mh_report.specs.Sink.{IsBeginning};
 ghost use Rattle.mh_report.specs.Report.{played, command_lines, script_lines, ended, status_of};
@@ -11,12 +9,12 @@ ghost use Rattle.mh_told.specs.Reading.{Gives};
 ghost use Rattle.mh_report.specs.Presets.{begins, opened, presets};
 
 use crate::play_error::PlayError;
+use crate::playable::Playable;
 use crate::preset::preset_all;
-use crate::report::frame_text;
 use crate::sink::{Sink, write_all};
 use crate::status::Status;
 use crate::telling::{progress, refusal};
-use mh_engine::{Engine, Refused, RefusedWhy, StartError};
+use mh_engine::{Engine, StartError};
 use mh_model::{File, Input, Picture};
 use mh_script::Command;
 use mh_service::Service;
@@ -29,22 +27,27 @@ use std::marker::Model;
 
 /// An engine with the frame that was shown last, and how many were shown.
 #[derive(Drop)]
-pub struct Player {
+pub(crate) struct Player<E: Playable> {
     alloc: Global,
-    engine: Engine,
+    engine: E,
     frame: Picture,
     frames: u64,
 }
 
-impl Model for Player {
+impl<E: Playable> Model for Player<E> {
     ghost use Rattle.mh_report.specs.Report.{Session};
 
     ghost Value = { Session };
 
-    ghost view = { λ p. record { state = p.engine.state; frame = p.frame; frames = p.frames } };
+    ghost view = { λ p. record {
+      seal = E.seal p.engine;
+      state = E.state p.engine;
+      frame = p.frame;
+      frames = p.frames;
+    } };
 }
 
-impl Player {
+impl Player<Engine> {
     /// A player at the start of this service on this day, with these files there.
     #[tactic(auto, unfolding(crate::specs::Presets::opened))]
     pub fn of_service(
@@ -52,14 +55,13 @@ impl Player {
         service: Service,
         mjd: u32,
         files: &[File],
-    ) -> Result<Player, Unplayable>
+    ) -> Result<Player<Engine>, Unplayable>
         requires plain { service.programs ≡ [] }
         ensures opened { Gives (λ player. player) result (opened service mjd files.now) }
         ensures fresh { IfOk result (λ player. player.frames ≡ 0) }
     {
-        let frame = Picture::black(alloc)?;
         match Engine::start_lenient(alloc, service, mjd) {
-            Ok(engine) => Player::with_files(alloc, engine, frame, files),
+            Ok(engine) => Player::with_files(alloc, engine, files),
             Err(_) => Err(Unplayable::NoMemory),
         }
     }
@@ -72,33 +74,29 @@ impl Player {
         accepted: Accepted,
         mjd: u32,
         files: &[File],
-    ) -> Result<Player, Unplayable>
+    ) -> Result<Player<Engine>, Unplayable>
         requires plain { accepted.service.programs ≡ [] }
         ensures opened { Gives (λ player. player) result (opened accepted.service mjd files.now) }
         ensures fresh { IfOk result (λ player. player.frames ≡ 0) }
     {
-        let frame = Picture::black(alloc)?;
         match Engine::start(alloc, accepted, mjd) {
-            Ok(engine) => Player::with_files(alloc, engine, frame, files),
+            Ok(engine) => Player::with_files(alloc, engine, files),
             Err(refused) => match refused.why {
                 StartError::NoMemory => Err(Unplayable::NoMemory),
                 StartError::ProgramsDiffer => unreachable!(),
             },
         }
     }
+}
 
+impl<E: Playable> Player<E> {
     /// A player with an engine that has just begun, and with these files there. The frame before the
     /// first one is black.
-    fn with_files(
-        alloc: Global,
-        engine: Engine,
-        frame: Picture,
-        files: &[File],
-    ) -> Result<Player, Unplayable>
-        requires black { frame ≡ blank }
-        ensures opened { Gives (λ player. player) result (begins (presets files.now engine.state)) }
+    pub fn with_files(alloc: Global, engine: E, files: &[File]) -> Result<Player<E>, Unplayable>
+        ensures opened { Gives (λ player. player) result (begins (E.seal engine) (presets files.now (E.state engine))) }
         ensures fresh { IfOk result (λ player. player.frames ≡ 0) }
     {
+        let frame = Picture::black(alloc)?;
         let mut player = Player {
             alloc,
             engine,
@@ -136,35 +134,36 @@ impl Player {
         }
     }
 
+    #[tactic(auto, using(crate::proofs::SessionLemmas::post_moved, crate::proofs::SessionLemmas::post_told))]
     fn post(&mut self, input: Input) -> Result<Text, AllocError>
         ensures done { OnOk result (self.new ≡ played (Command.Post input) self.old) }
         ensures whole { IfOk result (λ text. text ≡ command_lines (Command.Post input) self.old) }
     {
-        match self.engine.post(input) {
-            Ok(()) => Ok(Text::new(self.alloc)),
-            Err(refused) => refusal(self.alloc, why_refused(refused)),
-        }
+        let why = self.engine.post_input(self.alloc, input)?;
+        refusal(self.alloc, why)
     }
 
+    #[tactic(auto, using(crate::proofs::SessionLemmas::advance_moved, crate::proofs::SessionLemmas::advance_told))]
     fn advance(&mut self, limit: u32) -> Result<Text, AllocError>
         ensures done { OnOk result (self.new ≡ played (Command.Step limit) self.old) }
         ensures whole { IfOk result (λ text. text ≡ command_lines (Command.Step limit) self.old) }
     {
-        let steps = self.engine.taken();
-        let faults = self.engine.faults().len();
-        self.engine.advance(limit)?;
-        progress(self.alloc, &self.engine, steps, faults)
+        let before = self.engine.looked_at();
+        let steps = before.taken();
+        let faults = before.faults().len();
+        self.engine.make_steps(limit)?;
+        progress(self.alloc, self.engine.looked_at(), steps, faults)
     }
 
+    #[tactic(auto, using(crate::proofs::SessionLemmas::show_moved, crate::proofs::SessionLemmas::show_told))]
     fn show(&mut self) -> Result<Text, AllocError>
         requires { self.old.frames < 2 ^ 64 - 1 }
         ensures done { OnOk result (self.new ≡ played Command.Show self.old) }
         ensures whole { IfOk result (λ text. text ≡ command_lines Command.Show self.old) }
     {
-        let picture = self.engine.picture();
-        let text = frame_text(self.alloc, self.frames + 1, &self.frame, picture)?;
-        self.frame.copy_from(picture);
-        self.frames += 1;
+        let number = self.frames + 1;
+        let text = self.engine.show_frame(self.alloc, number, &mut self.frame)?;
+        self.frames = number;
         Ok(text)
     }
 
@@ -173,7 +172,7 @@ impl Player {
         ensures { IfOk result (λ text. text ≡ total_line self.now.state.taken) }
     {
         let mut text = Text::new(self.alloc);
-        put_total(&mut text, self.engine.taken())?;
+        put_total(&mut text, self.engine.looked_at().taken())?;
         Ok(text)
     }
 
@@ -181,7 +180,7 @@ impl Player {
     fn status(&self) -> Status
         ensures { result ≡ status_of self.now.state.faults }
     {
-        if self.engine.faults().is_empty() {
+        if self.engine.looked_at().faults().is_empty() {
             Status::Good
         } else {
             Status::Faults
@@ -231,7 +230,7 @@ pub(crate) trait Plays: Drop {
         ensures write { IsErrOf result PlayError.Write → S.failures sink.old < S.failures sink.new };
 }
 
-impl Plays for Player {
+impl<E: Playable> Plays for Player<E> {
     ghost session = { λ p. p };
 
     fn play_all<S: Sink>(
@@ -254,14 +253,6 @@ fn once_set<P: Drop>(set: Result<(), Unplayable>, player: P) -> Result<P, Unplay
         Ok(()) => Ok(player),
         Err(why) => Err(why),
     }
-}
-
-/// Why an input was refused, without the input.
-fn why_refused(refused: Refused) -> RefusedWhy
-    ensures { result ≡ refused.why }
-{
-    let Refused { why, input: _ } = refused;
-    why
 }
 
 fn copied(input: &Input) -> Result<Input, AllocError>

@@ -3,16 +3,22 @@ ghost use Rattle.std.specs.Prelude.{◌≡◌, Ok, IfOk, IfErr, OnOk};
 ghost use Rattle.mh_told.specs.Reading.{Fails};
 ghost use Rattle.mh_report.specs.Presets.{presets, tried, unset};
 
+use crate::playable::Playable;
 use mh_base::Octets;
-use mh_engine::{Engine, RefusedWhy};
+use mh_engine::RefusedWhy;
 use mh_model::File;
 use mh_told::unplayable::Unplayable;
 use std::alloc::{AllocError, Global};
 
 /// Puts the files there, in order, up to the first that is refused.
-pub fn preset_all(alloc: Global, engine: &mut Engine, files: &[File]) -> Result<(), Unplayable>
-    ensures set { OnOk result (presets files.now engine.old.state ≡ Ok engine.new.state) }
-    ensures refused { IfErr result (λ why. Fails why (presets files.now engine.old.state)) }
+pub(crate) fn preset_all<E: Playable>(
+    alloc: Global,
+    engine: &mut E,
+    files: &[File],
+) -> Result<(), Unplayable>
+    ensures set { OnOk result (presets files.now (E.state engine.old) ≡ Ok (E.state engine.new)) }
+    ensures refused { IfErr result (λ why. Fails why (presets files.now (E.state engine.old))) }
+    ensures same { E.seal engine.new ≡ E.seal engine.old }
 {
     for file in files {
         preset(alloc, engine, file)?;
@@ -21,11 +27,12 @@ pub fn preset_all(alloc: Global, engine: &mut Engine, files: &[File]) -> Result<
 }
 
 /// Puts a file there.
-fn preset(alloc: Global, engine: &mut Engine, file: &File) -> Result<(), Unplayable>
-    ensures set { OnOk result (tried file.now engine.old.state ≡ Ok engine.new.state) }
-    ensures refused { IfErr result (λ why. Fails why (tried file.now engine.old.state)) }
+fn preset<E: Playable>(alloc: Global, engine: &mut E, file: &File) -> Result<(), Unplayable>
+    ensures set { OnOk result (tried file.now (E.state engine.old) ≡ Ok (E.state engine.new)) }
+    ensures refused { IfErr result (λ why. Fails why (tried file.now (E.state engine.old))) }
+    ensures same { E.seal engine.new ≡ E.seal engine.old }
 {
-    match engine.preset(copied(file)?) {
+    match engine.preset_file(copied(file)?) {
         Ok(()) => Ok(()),
         Err(refused) => Err(unset(alloc, refused.why, file)?),
     }

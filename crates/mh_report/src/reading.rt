@@ -83,7 +83,7 @@ fn service_with(
 
 /// The commands of a script that is played on this service.
 #[tactic(auto, unfolding(crate::specs::Reading::commands_of))]
-fn read_commands(
+pub fn read_commands(
     alloc: Global,
     tags: &TagTable,
     service: &Service,

@@ -2,7 +2,7 @@
 //!
 //! Everything is put together as text here; writing it is left to `sink`.
 ghost use Rattle.std.specs.Prelude.{◌≡◌, ◌++◌, OnOk, IfOk};
-ghost use Rattle.mh_told.specs.Frame.{row_changes, frame_text};
+ghost use Rattle.mh_told.specs.Frame.{row_changes, frame_text as frame_lines};
 
 use mh_display::changed_rows;
 use mh_model::Picture;
@@ -26,18 +26,33 @@ fn put_changes(text: &mut Text, before: &Picture, after: &Picture) -> Result<(),
 }
 
 /// The lines of a frame: its number, and the rows that differ from the frame before.
-pub fn frame_text(
+fn frame_text(
     alloc: Global,
     number: u64,
     before: &Picture,
     after: &Picture,
 ) -> Result<Text, AllocError>
-    ensures { IfOk result (λ text. text ≡ frame_text number before.now after.now) }
+    ensures { IfOk result (λ text. text ≡ frame_lines number before.now after.now) }
 {
     let mut text = Text::new(alloc);
     text.put(b"frame ")?;
     text.put_number(number)?;
     text.put(b"\n")?;
     put_changes(&mut text, before, after)?;
+    Ok(text)
+}
+
+/// The same, where the frame becomes the one that was shown before.
+pub fn next_frame(
+    alloc: Global,
+    number: u64,
+    before: &mut Picture,
+    after: &Picture,
+) -> Result<Text, AllocError>
+    ensures told { IfOk result (λ text. text ≡ frame_lines number before.old after.now) }
+    ensures frame { OnOk result (before.new ≡ after.now) }
+{
+    let text = frame_text(alloc, number, before, after)?;
+    before.copy_from(after);
     Ok(text)
 }

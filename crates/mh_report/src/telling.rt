@@ -1,23 +1,23 @@
 //! What a report tells of a play: a post that was refused, and the faults and steps since a command began.
-ghost use Rattle.std.specs.Prelude.{◌≡◌, ◌++◌, Some, drop, OnOk, IfOk};
+ghost use Rattle.std.specs.Prelude.{◌≡◌, ◌++◌, drop, OnOk, IfOk};
 ghost use Rattle.std.specs.List.{flat_map};
 ghost use Rattle.mh_report.specs.Report.{progress_since, number_line, why_line};
 ghost use Rattle.mh_told.specs.Told.{fault_line};
 
-use mh_engine::{Engine, RefusedWhy};
+use mh_engine::RefusedWhy;
+use mh_machine::Machine;
 use mh_model::Fault;
 use mh_told::text::Text;
 use mh_told::told::{put_did, put_fault, put_refused};
 use std::alloc::{AllocError, Global};
 
-/// The line on a refused post. There is none on want of memory.
-pub fn refusal(alloc: Global, why: RefusedWhy) -> Result<Text, AllocError>
-    ensures line { IfOk result (λ text. text ≡ why_line (Some why)) }
-    ensures memory { OnOk result (why ≡ RefusedWhy.NoMemory → ⊥) }
+/// The line on a post that was refused for this, if it was.
+pub fn refusal(alloc: Global, why: Option<RefusedWhy>) -> Result<Text, AllocError>
+    ensures { IfOk result (λ text. text ≡ why_line why) }
 {
     match why {
-        RefusedWhy::NoMemory => Err(AllocError),
-        _ => numbered(alloc, why.number()),
+        Some(why) => numbered(alloc, why.number()),
+        None => Ok(Text::new(alloc)),
     }
 }
 
@@ -35,18 +35,18 @@ fn numbered(alloc: Global, number: Option<u32>) -> Result<Text, AllocError>
 /// The lines on what happened since so many steps and faults.
 pub fn progress(
     alloc: Global,
-    engine: &Engine,
+    machine: &Machine,
     steps: u64,
     faults: usize,
 ) -> Result<Text, AllocError>
-    ensures { IfOk result (λ text. text ≡ progress_since steps faults engine.now.state) }
+    ensures { IfOk result (λ text. text ≡ progress_since steps faults machine.now) }
 {
     let mut text = Text::new(alloc);
-    put_faults(&mut text, engine.faults(), faults)?;
+    put_faults(&mut text, machine.faults(), faults)?;
     put_did(
         &mut text,
-        engine.taken().saturating_sub(steps),
-        engine.rest(),
+        machine.taken().saturating_sub(steps),
+        machine.rest(),
     )?;
     Ok(text)
 }

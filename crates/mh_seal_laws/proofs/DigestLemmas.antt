@@ -37,11 +37,11 @@ use Rattle.mh_seal_laws.proofs.SealedLemmas.{goes_well}
 
 -- Bits
 
-one_false : (b c : Bool) → (b || c) ≡ false → b ≡ false
+pub one_false : (b c : Bool) → (b || c) ≡ false → b ≡ false
 one_false true c e = absurd cc
 one_false false c e = refl
 
-other_false : (b c : Bool) → (b || c) ≡ false → c ≡ false
+pub other_false : (b c : Bool) → (b || c) ≡ false → c ≡ false
 other_false true c e = absurd cc
 other_false false c e = e
 

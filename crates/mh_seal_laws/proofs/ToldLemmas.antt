@@ -41,7 +41,7 @@ profile_is_table = record {
 }
 
 -- what is told of the files are their digests
-told_digests : (late : List (List ℕ)) (fs : List GroupFile) → map (λ (g : SealedGroup). (g.name, g.digest)) (map (told_group late) fs) ≡ digests profile sha256 fs
+pub told_digests : (late : List (List ℕ)) (fs : List GroupFile) → map (λ (g : SealedGroup). (g.name, g.digest)) (map (told_group late) fs) ≡ digests profile sha256 fs
 told_digests late [] = refl
 told_digests late (f ∷ fs) = ap (λ (ds : List (List ℕ × List ℕ)). (f.0, digest_of f.1) ∷ ds) (told_digests late fs)
 

@@ -5,7 +5,7 @@
 //! same steps and the same picture. A seal that goes by digests is right unless two groups with one digest are met.
 //!
 //! Promise: each public function is a law, its one clause or clauses; none of them does anything. They speak of
-//! runs without programs of the receiver's own. No engine begins so yet.
+//! runs without programs of the receiver's own. `SealedEngine` of `mh_engine` plays so.
 #![tactic(auto)]
 
 pub mod law;

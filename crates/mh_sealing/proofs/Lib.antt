@@ -1,3 +1,4 @@
 pub mod OrderLemmas
 pub mod SpelledLemmas
 pub mod WholeLemmas
+pub mod HereLemmas

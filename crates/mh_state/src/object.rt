@@ -32,7 +32,7 @@ pub fn put_object(
 }
 
 #[tactic(auto, unfolding(crate::specs::Object::absent_line))]
-fn put_absent(text: &mut Text, at: &ObjRef) -> Result<(), AllocError>
+pub(crate) fn put_absent(text: &mut Text, at: &ObjRef) -> Result<(), AllocError>
     ensures { OnOk result (text.new ≡ text.old ++ spec.absent_line at.now) }
 {
     put_ref(text, at)?;

@@ -10,6 +10,8 @@ pub struct Command<'a> {
     pub start: &'a str,
     pub mjd: u32,
     pub lenient: bool,
+    /// The file that has the seal by which is played.
+    pub sealed: Option<&'a str>,
     pub strict: bool,
     pub tap: bool,
     pub keys: u32,
@@ -22,6 +24,21 @@ pub struct Command<'a> {
     pub until: u32,
     /// Behind how many steps a state is told.
     pub at: u32,
+    /// The cell of which is told what lies there, by its column and its row.
+    pub cell: Option<(u32, u32)>,
+    pub aim: Aim<'a>,
+}
+
+/// Where a script is to lead that is looked for.
+#[derive(Clone, Copy)]
+pub enum Aim<'a> {
+    Fault,
+    /// To more steps than are made.
+    More,
+    /// To the scene of this path.
+    Scene(&'a str),
+    /// To this text.
+    Shown(&'a str),
 }
 
 impl<'a> Command<'a> {
@@ -33,6 +50,7 @@ impl<'a> Command<'a> {
             start: "a",
             mjd: DAY,
             lenient: false,
+            sealed: None,
             strict: false,
             tap: false,
             keys: 6,
@@ -42,6 +60,8 @@ impl<'a> Command<'a> {
             from: 1,
             until: u32::MAX,
             at: u32::MAX,
+            cell: None,
+            aim: Aim::Fault,
         };
         for option in options.split("--").skip(1) {
             command = command.with(option.trim_end())?;
@@ -55,6 +75,7 @@ impl<'a> Command<'a> {
         let mut command = self;
         match word {
             "lenient" => command.lenient = true,
+            "sealed" => command.sealed = Some(value),
             "strict" => command.strict = true,
             "tap" => command.tap = true,
             "start" => command.start = unquoted(value),
@@ -63,9 +84,13 @@ impl<'a> Command<'a> {
             "steps" => command.steps = value.parse::<u32>().ok()?,
             "only" | "object" => command.only = Some(object(value)?),
             "format" => command.json = value == "json",
+            "cell" => command.cell = Some(cell(value)?),
             "at" => command.at = value.parse::<u32>().ok()?,
             "from" => command.from = value.parse::<u32>().ok()?,
             "until" => command.until = value.parse::<u32>().ok()?,
+            "endless" => command.aim = Aim::More,
+            "to" => command.aim = Aim::Scene(value),
+            "shows" => command.aim = Aim::Shown(value),
             _ => return None,
         }
         Some(command)
@@ -81,4 +106,15 @@ fn unquoted(word: &str) -> &str {
 fn object(value: &str) -> Option<(&str, u32)> {
     let (group, number) = value.split_once(' ')?;
     Some((group, number.parse::<u32>().ok()?))
+}
+
+/// A column and a row of the screen.
+fn cell(value: &str) -> Option<(u32, u32)> {
+    let (column, row) = value.split_once(' ')?;
+    let (column, row) = (column.parse::<u32>().ok()?, row.parse::<u32>().ok()?);
+    if column < 60 && row < 36 {
+        Some((column, row))
+    } else {
+        None
+    }
 }

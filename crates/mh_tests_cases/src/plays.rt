@@ -1,7 +1,10 @@
 //! What `redplay` writes.
 use crate::command::Command;
 use mh_case_files::{Answer, File, Material};
-use mh_report::{ListSink, Notation, Options, check_bytes, convert_bytes, play_bytes, seal_bytes};
+use mh_report::{
+    ListSink, Notation, Options, check_bytes, convert_bytes, play_bytes, play_sealed_bytes,
+    seal_bytes,
+};
 use std::alloc::Global;
 
 /// What a call of `redplay` writes, and its exit status.
@@ -9,7 +12,10 @@ pub fn answer(alloc: Global, material: &Material, command: &Command<'_>) -> Opti
     let options = options(alloc, material, command)?;
     match command.name {
         "check" => checked(alloc, material, &options),
-        "play" => played(alloc, material, &options),
+        "play" => match command.sealed {
+            Some(seal) => played_by_seal(alloc, material, seal, &options),
+            None => played(alloc, material, &options),
+        },
         "seal" => sealed(alloc, material, &options),
         "to-text" => converted(alloc, material, Notation::Textual, &options),
         "to-der" => converted(alloc, material, Notation::Binary, &options),
@@ -73,6 +79,39 @@ fn played(alloc: Global, material: &Material, options: &Options) -> Option<Answe
     };
     let files = material.files.as_slice();
     let status = play_bytes(alloc, files, script, options, &mut sink).ok()?;
+    Some(Answer {
+        status: status.code(),
+        written: sink.bytes,
+    })
+}
+
+/// Plays by the seal that the file of this name has.
+fn played_by_seal(
+    alloc: Global,
+    material: &Material,
+    seal: &str,
+    options: &Options,
+) -> Option<Answer> {
+    let mut sink = ListSink {
+        bytes: Vec::new(alloc),
+        failures: 0,
+    };
+    let files = material.files.as_slice();
+    let seal: &File = files
+        .iter()
+        .find(|file| file.0.as_bytes() == seal.as_bytes())?;
+    let script: &[u8] = match &material.script {
+        Some(script) => script.as_slice(),
+        None => b"",
+    };
+    let status = play_sealed_bytes(
+        alloc,
+        files,
+        seal.1.as_slice(),
+        script,
+        options,
+        &mut sink,
+    ).ok()?;
     Some(Answer {
         status: status.code(),
         written: sink.bytes,

@@ -1,12 +1,14 @@
 //! What `redtry` writes, but for plays at a terminal.
-use crate::command::Command;
+use crate::command::{Aim, Command};
 use crate::plays::copied;
 use mh_base::{GroupName, ObjRef};
 use mh_case_files::{Answer, Material};
+use mh_model::picture::COLUMNS;
 use mh_told::text::Text;
 use mh_told::unplayable::Unplayable;
 use mh_try::{
-    Chosen, Form, Telling, Within, cover_of, fault_script, refusal_of, state_of, trace_of,
+    Chosen, Form, Goal, Part, Telling, Unwatched, Within, cover_of, refusal_of, script_to,
+    state_of, trace_of,
 };
 use mh_verdict::complaint_text;
 use std::alloc::Global;
@@ -83,7 +85,7 @@ fn stated(
     chosen: &Chosen,
     command: &Command<'_>,
 ) -> Option<Answer> {
-    let object = object_of(alloc, command)?;
+    let part = part_of(alloc, command)?;
     of_told(
         alloc,
         state_of(
@@ -92,9 +94,24 @@ fn stated(
             script_of(material),
             chosen,
             u64::from(command.at),
-            object.as_ref(),
+            &part,
         ),
     )
+}
+
+/// What is told of a state.
+fn part_of(alloc: Global, command: &Command<'_>) -> Option<Part> {
+    if let Some((column, row)) = command.cell {
+        let row = usize::try_from(row).ok()?;
+        let cell = row
+            .checked_mul(COLUMNS)?
+            .checked_add(usize::try_from(column).ok()?)?;
+        return Some(Part::Cell(cell));
+    }
+    match object_of(alloc, command)? {
+        Some(at) => Some(Part::Object(at)),
+        None => Some(Part::All),
+    }
 }
 
 /// The lines on a refusal, if there is one; none at all where the service cannot be read.
@@ -168,9 +185,29 @@ fn found(
         steps: command.steps,
         plays: PLAYS,
     };
-    match fault_script(alloc, material.files.as_slice(), chosen, within) {
+    let goal = goal_of(alloc, command.aim)?;
+    let mut nobody = Unwatched;
+    let files = material.files.as_slice();
+    match script_to(alloc, files, chosen, &goal, within, &mut nobody) {
         Ok(Some(script)) => of_text(alloc, &script, 0),
         Ok(None) => of_text(alloc, &Text::new(alloc), NOT_SO),
         Err(why) => of_text(alloc, &complaint_text(alloc, &why).ok()?, UNREADABLE),
     }
+}
+
+fn goal_of(alloc: Global, aim: Aim<'_>) -> Option<Goal> {
+    match aim {
+        Aim::Fault => Some(Goal::Fault),
+        Aim::More => Some(Goal::More),
+        Aim::Scene(path) => Some(Goal::Scene(GroupName::of_path(alloc, path.as_bytes()).ok()?)),
+        Aim::Shown(text) => Some(Goal::Shown(scalars(alloc, text)?)),
+    }
+}
+
+fn scalars(alloc: Global, text: &str) -> Option<Vec<u32>> {
+    let mut scalars = Vec::new(alloc);
+    for character in text.chars() {
+        scalars.push(u32::from(character)).ok()?;
+    }
+    Some(scalars)
 }

@@ -1,11 +1,11 @@
 //! What cannot be explained: a folder that is not there, or is none.
-use mh_look::{Failure, done, line_of};
+use mh_look::{Failure, line_of, run_task};
 use std::rt::Runtime;
 
 /// Why what these words ask for is not done. None where it is, and where they ask for nothing.
 pub fn failure_of<R: Runtime + AllocGlobal>(rt: &R, words: &[&str]) -> Option<Failure> {
     let task = line_of(rt.alloc(), words).ok()?;
-    let failure = done(rt, &task, false).err();
+    let failure = run_task(rt, &task, false).err();
     drop(task);
     failure
 }

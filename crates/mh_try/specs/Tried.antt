@@ -1,12 +1,11 @@
 -- What is told of scripts that are played on a service, as functions of the files, the scripts and what is chosen.
-use Rattle.std.specs.Prelude.{◌≡◌, ℕ, Bool, true, not, List, [], ◌∷◌, ◌++◌, Option, Some, None, Result, Ok, Err}
+use Rattle.std.specs.Prelude.{ℕ, Bool, List, [], ◌∷◌, ◌++◌, Option, Some, None, Result, Ok, Err}
 use Rattle.std.specs.Option.{option_map}
 use Rattle.mh_base.specs.declared.obj_ref.ObjRef.{ObjRef}
 use Rattle.mh_codec.specs.Tags.{Tags}
 use Rattle.mh_model.specs.declared.file.File.{File as Content}
 use Rattle.mh_model.specs.Service.{Service}
-use Rattle.mh_model.specs.State.{State, begun}
-use Rattle.mh_model.specs.Step.{is_empty}
+use Rattle.mh_model.specs.State.{begun}
 use Rattle.mh_script.specs.declared.script.Command.{Command}
 use Rattle.mh_script.specs.Contents.{contents}
 use Rattle.mh_script.specs.Script.{commands, first_wrong, lines}
@@ -73,19 +72,6 @@ trace_read t c only files script = do
   tags ← table_of (tags_of c)
   text ← told_with t c files script tags
   Ok (narrowed t.form only text)
-
--- whether a fault comes while a script is played
-abbrev pub is_led : State → Bool
-is_led s = not (is_empty s.faults)
-
-unfoldable pub leads : Chosen → List Source → List ℕ → Tags → Result Bool Unplayable
-leads c files script tags = do
-  found ← played_with c files script tags
-  Ok (is_led found.1.state)
-
--- THE SCRIPT LEADS THE SERVICE TO A FAULT
-abbrev pub LeadsToFault : Chosen → List Source → List ℕ → Type 0
-LeadsToFault c files script = (table_of (tags_of c) >>= leads c files script) ≡ Ok true
 
 -- what a script more has done and entered
 unfoldable pub cover_one : Chosen → List Source → Tags → List ℕ → Covering → Result Covering Unplayable

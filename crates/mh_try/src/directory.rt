@@ -13,10 +13,7 @@ use mh_trace::{Directory, EffectKind, Site};
 use std::alloc::{AllocError, Global};
 
 /// Where the actions of these files are written.
-pub(crate) fn directory_of(
-    alloc: Global,
-    files: &[(GroupName, Vec<u8>)],
-) -> Result<Directory, AllocError>
+pub fn directory_of(alloc: Global, files: &[(GroupName, Vec<u8>)]) -> Result<Directory, AllocError>
     ensures { IfOk result (λ directory. directory ≡ spec.directory_of files.now) }
 {
     let mut directory = Directory::new(alloc);

@@ -3,7 +3,6 @@
 //! Promise: what is told is that of the state to which the commands lead, up to so many steps; `traces_stand_in_runs` of
 //! `mh_trace` says that it is the state of the run.
 ghost use Rattle.std.specs.Prelude.{◌≡◌, ◌++◌, [], IfOk, OnOk};
-ghost use Rattle.std.specs.Option.{option_copied};
 ghost use Rattle.mh_told.specs.Reading.{Gives};
 ghost use Rattle.mh_try.specs.Standing as spec;
 ghost use Rattle.mh_try.specs.Tried.{beginning};
@@ -15,15 +14,26 @@ use mh_machine::Machine;
 use mh_model::File;
 use mh_script::{Command, read_contents};
 use mh_service::Service;
-use mh_state::{put_object, put_state};
+use mh_state::{put_cell, put_object, put_state};
 use mh_told::tags::table_of;
 use mh_told::text::Text;
 use mh_told::unplayable::Unplayable;
 use mh_trace::{Directory, Telling, Tracer};
 use std::alloc::{AllocError, Global};
 
+/// What is told of a state.
+#[derive(Drop)]
+pub enum Part {
+    /// All of it.
+    All,
+    /// This object.
+    Object(ObjRef),
+    /// The cell with this number: its row times 60, and its column.
+    Cell(usize),
+}
+
 /// The state behind so many steps of a script that is played on the service of these files, or behind all of them where
-/// there are fewer; with an object what is told of that alone.
+/// there are fewer, or of a part of it.
 #[tactic(auto, unfolding(crate::specs::Standing::state_read))]
 pub fn state_of(
     alloc: Global,
@@ -31,13 +41,13 @@ pub fn state_of(
     script: &[u8],
     chosen: &Chosen,
     steps: u64,
-    object: Option<&ObjRef>,
+    part: &Part,
 ) -> Result<Text, Unplayable>
     ensures { Gives (λ text. text) result
-        (spec.state_read steps (option_copied object.entry) chosen.now files.now script.now) }
+        (spec.state_read steps part.now chosen.now files.now script.now) }
 {
     let tags = table_of(alloc, bytes_of(&chosen.tags))?;
-    let text = state_with(alloc, &tags, files, script, chosen, steps, object)?;
+    let text = state_with(alloc, &tags, files, script, chosen, steps, part)?;
     Ok(text)
 }
 
@@ -49,10 +59,10 @@ fn state_with(
     script: &[u8],
     chosen: &Chosen,
     steps: u64,
-    object: Option<&ObjRef>,
+    part: &Part,
 ) -> Result<Text, Unplayable>
     ensures { Gives (λ text. text) result
-        (spec.state_with steps (option_copied object.entry) chosen.now files.now script.now tags.now) }
+        (spec.state_with steps part.now chosen.now files.now script.now tags.now) }
 {
     let service = service_of(alloc, tags, files, chosen)?;
     let commands = read_commands(alloc, tags, &service, script)?;
@@ -64,7 +74,7 @@ fn state_with(
         contents.as_slice(),
         commands.as_slice(),
         steps,
-        object,
+        part,
     )?;
     Ok(text)
 }
@@ -77,13 +87,13 @@ fn state_on(
     contents: &[File],
     commands: &[Command],
     steps: u64,
-    object: Option<&ObjRef>,
+    part: &Part,
 ) -> Result<Text, AllocError>
     ensures { IfOk result (λ text. text
-        ≡ spec.told_behind steps (option_copied object.entry) contents.now commands.now (beginning [] service mjd)) }
+        ≡ spec.told_behind steps part.now contents.now commands.now (beginning [] service mjd)) }
 {
     let tracer = begun(alloc, Directory::new(alloc), service, mjd)?;
-    let text = state_behind(alloc, tracer, contents, commands, steps, object)?;
+    let text = state_behind(alloc, tracer, contents, commands, steps, part)?;
     Ok(text)
 }
 
@@ -94,13 +104,13 @@ fn state_behind(
     contents: &[File],
     commands: &[Command],
     steps: u64,
-    object: Option<&ObjRef>,
+    part: &Part,
 ) -> Result<Text, AllocError>
     ensures { IfOk result (λ text. text
-        ≡ spec.told_behind steps (option_copied object.entry) contents.now commands.now tracer) }
+        ≡ spec.told_behind steps part.now contents.now commands.now tracer) }
 {
     let mut tracer = tracer;
-    let text = tell_behind(alloc, &mut tracer, contents, commands, steps, object);
+    let text = tell_behind(alloc, &mut tracer, contents, commands, steps, part);
     drop(tracer);
     text
 }
@@ -111,22 +121,22 @@ fn tell_behind(
     contents: &[File],
     commands: &[Command],
     steps: u64,
-    object: Option<&ObjRef>,
+    part: &Part,
 ) -> Result<Text, AllocError>
     ensures { IfOk result (λ text. text
-        ≡ spec.told_behind steps (option_copied object.entry) contents.now commands.now tracer.old) }
+        ≡ spec.told_behind steps part.now contents.now commands.now tracer.old) }
 {
     let mut unread = Text::new(alloc);
     tracer.preset_all(&Telling::nothing(), contents, &mut unread)?;
     tracer.play_until(steps, commands)?;
-    told_of(alloc, tracer.machine(), object)
+    told_of(alloc, tracer.machine(), part)
 }
 
-fn told_of(alloc: Global, machine: &Machine, object: Option<&ObjRef>) -> Result<Text, AllocError>
-    ensures { IfOk result (λ text. text ≡ spec.told_of (option_copied object.entry) machine.now) }
+fn told_of(alloc: Global, machine: &Machine, part: &Part) -> Result<Text, AllocError>
+    ensures { IfOk result (λ text. text ≡ spec.told_of part.now machine.now) }
 {
     let mut text = Text::new(alloc);
-    put_told(alloc, &mut text, machine, object)?;
+    put_told(alloc, &mut text, machine, part)?;
     Ok(text)
 }
 
@@ -134,12 +144,13 @@ fn put_told(
     alloc: Global,
     text: &mut Text,
     machine: &Machine,
-    object: Option<&ObjRef>,
+    part: &Part,
 ) -> Result<(), AllocError>
-    ensures { OnOk result (text.new ≡ text.old ++ spec.told_of (option_copied object.entry) machine.now) }
+    ensures { OnOk result (text.new ≡ text.old ++ spec.told_of part.now machine.now) }
 {
-    match object {
-        Some(at) => put_object(alloc, text, machine.objects(), at),
-        None => put_state(alloc, text, machine),
+    match part {
+        Part::All => put_state(alloc, text, machine),
+        Part::Object(at) => put_object(alloc, text, machine.objects(), at),
+        Part::Cell(cell) => put_cell(alloc, text, machine, *cell),
     }
 }

@@ -98,7 +98,7 @@ pub(crate) fn bytes_of(bytes: &Option<Vec<u8>>) -> Option<&[u8]>
 }
 
 /// The service of the files, with what is chosen.
-pub(crate) fn service_of(
+pub fn service_of(
     alloc: Global,
     tags: &TagTable,
     files: &[(GroupName, Vec<u8>)],
@@ -172,7 +172,7 @@ fn played_on(
 }
 
 /// What a play begins with.
-pub(crate) fn begun(
+pub fn begun(
     alloc: Global,
     directory: Directory,
     service: Service,
@@ -220,7 +220,7 @@ fn tell(
 
 /// The commands of a script that is played on this service.
 #[tactic(auto, unfolding(crate::specs::Tried::commands_of))]
-pub(crate) fn read_commands(
+pub fn read_commands(
     alloc: Global,
     tags: &TagTable,
     service: &Service,

@@ -1,6 +1,7 @@
 -- The cause and the mend of a refusal, by its case.
-use Rattle.std.specs.Prelude.{ℕ, ◌-◌, ◌==◌, Bool, false, if◌then◌else◌, List, [], ◌∷◌, ◌++◌, length, slice_get, codes, Option, Some, None, unwrap_or}
+use Rattle.std.specs.Prelude.{ℕ, ◌-◌, ◌==◌, Bool, false, true, if◌then◌else◌, List, [], ◌∷◌, ◌++◌, length, slice_get, codes, Option, Some, None, unwrap_or}
 use Rattle.std.specs.Fmt.{decimal}
+use Rattle.std.specs.List.{list_any}
 use Rattle.std.specs.Option.{option_map}
 use Rattle.mh_base.specs.declared.obj_ref.ObjRef.{ObjRef}
 use Rattle.mh_cause.specs.declared.detail.Detail.{Detail}
@@ -9,6 +10,9 @@ use Rattle.mh_cause.specs.Causes.{cause, mend}
 use Rattle.mh_cause.specs.Details.{detail_of}
 use Rattle.mh_cause.specs.Refusing.{Refused}
 use Rattle.mh_flow.specs.declared.chain.link.Link.{Link}
+use Rattle.mh_layers.specs.declared.arrows.arrow.Arrow.{Arrow}
+use Rattle.mh_layers.specs.declared.arrows.arrow.By.{By}
+use Rattle.mh_layers.specs.declared.arrows.arrow.By.TheVariants as by
 use Rattle.mh_layers.specs.declared.bounds.InputKind.{InputKind}
 use Rattle.mh_layers.specs.Bounding.{kind_word}
 use Rattle.mh_verify.specs.declared.refusal.Place.{Place}
@@ -58,17 +62,30 @@ plain_cause refusal.Cycle n = cycle_cause n
 plain_cause (refusal.TooManySteps i) n = steps_cause i
 plain_cause k n = []
 
-abbrev pub plain_mend : RefusalKind → List ℕ
-plain_mend refusal.Cycle = told.WAIT_OUTSIDE.now
-plain_mend (refusal.TooManySteps i) = told.HAVE_FEWER.now
-plain_mend k = []
+-- the arrow enters a group, whose OnStartUp is done then
+abbrev pub is_entry : By → Bool
+is_entry by.Entered = true
+is_entry _ = false
+
+abbrev pub enters : Arrow → Bool
+enters a = is_entry a.by
+
+unfoldable pub cycle_mend : List Arrow → List ℕ
+cycle_mend arrows =
+    if list_any enters arrows then told.ENTERED_AGAIN.now
+    else (if length arrows == 1 then told.ALONE_OUTSIDE.now else told.WAIT_OUTSIDE.now)
+
+abbrev pub plain_mend : RefusalKind → List Arrow → List ℕ
+plain_mend refusal.Cycle arrows = cycle_mend arrows
+plain_mend (refusal.TooManySteps i) arrows = told.HAVE_FEWER.now
+plain_mend k arrows = []
 
 abbrev pub cause_for : Refusal → Option Refused → List ℕ
 cause_for r None = plain_cause r.kind (length r.cycle)
 cause_for r (Some known) = cause r.service known
 
 abbrev pub mend_for : Refusal → Option Refused → List ℕ
-mend_for r None = plain_mend r.kind
+mend_for r None = plain_mend r.kind r.cycle
 mend_for r (Some known) = mend r.service known
 
 unfoldable pub refusal_cause : Refusal → List ℕ

@@ -4,7 +4,7 @@
 
 use mh_command::{tell_no_task, words_of};
 use mh_exit::Exit;
-use mh_look::{Failure, Task, done, line_of};
+use mh_look::{Failure, Task, line_of, run_task};
 use std::io;
 use std::io::IsTerminal;
 use std::process::ExitCode;
@@ -28,7 +28,7 @@ fn run<R: Runtime + AllocGlobal>(rt: &R, is_terminal: bool) -> io::Result<Exit> 
 
 /// Does a task, or tells what went wrong.
 fn perform<R: Runtime + AllocGlobal>(rt: &R, task: &Task, is_terminal: bool) -> io::Result<Exit> {
-    match done(rt, task, is_terminal) {
+    match run_task(rt, task, is_terminal) {
         Ok(outcome) => Ok(outcome.exit()),
         Err(failure) => tell_failure(rt, &failure),
     }

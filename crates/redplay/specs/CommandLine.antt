@@ -3,7 +3,7 @@
 use Rattle.std.specs.Prelude.{◌≡◌, ℕ, ◌≤◌, Bool, if◌then◌else◌, List, [], Option, Some, None, codes}
 use Rattle.std.specs.Str.{bytes_eq}
 use Rattle.clap.specs.Words.{App, Row, Rule, Text, first_of, new_app, with_rule, with_subcommand}
-use Rattle.mh_command.specs.Arguments.{bare, flag, folder, last_day, mjd, path, script_to_play, tags, with_choices}
+use Rattle.mh_command.specs.Arguments.{bare, flag, folder, last_day, mjd, named, path, script_to_play, tags, with_choices}
 use Rattle.mh_command.specs.Values.{day_of, is_set, named_in, text_of}
 use Rattle.mh_report.specs.declared.convert.Notation.{Notation}
 use Rattle.mh_report.specs.declared.convert.Notation.TheVariants as notation
@@ -17,6 +17,9 @@ file = path (codes "FILE")
 
 abbrev pub lenient : Rule
 lenient = flag (codes "lenient")
+
+abbrev pub seal_file : Rule
+seal_file = named (codes "sealed")
 
 -- The subcommands.
 
@@ -35,7 +38,7 @@ abbrev pub play_service : App
 play_service = with_choices play_required
 
 abbrev pub play : App
-play = with_rule (with_rule play_service mjd) lenient
+play = with_rule (with_rule (with_rule play_service mjd) lenient) seal_file
 
 abbrev pub to_der : App
 to_der = with_rule (with_rule (new_app (codes "to-der")) file) tags
@@ -53,7 +56,7 @@ program = with_subcommand (with_subcommand with_services to_der.top) to_text.top
 
 pub data Asked : Type 0 where
   checked : (folder start : Text) (late tags : Option Text) → Asked
-  played : (folder start : Text) (late tags : Option Text) (script : Text) (lenient : Bool) (mjd : ℕ) → Asked
+  played : (folder start : Text) (late tags : Option Text) (script : Text) (lenient : Bool) (mjd : ℕ) (seal : Option Text) → Asked
   sealed : (folder start : Text) (late tags : Option Text) → Asked
   converted : (file : Text) (to : Notation) (tags : Option Text) → Asked
 
@@ -68,7 +71,7 @@ sealing rows = sealed (text_of (codes "DIR") rows) (text_of (codes "start") rows
 abbrev pub playing : List Row → Asked
 playing rows =
     played (text_of (codes "DIR") rows) (text_of (codes "start") rows) (first_of (codes "late") rows) (first_of (codes "tags") rows)
-    (text_of (codes "script") rows) (is_set (codes "lenient") rows) (day_of rows)
+    (text_of (codes "script") rows) (is_set (codes "lenient") rows) (day_of rows) (first_of (codes "sealed") rows)
 
 abbrev pub converting : List Row → Notation → Asked
 converting rows to = converted (text_of (codes "FILE") rows) to (first_of (codes "tags") rows)
@@ -90,11 +93,11 @@ asked_by None = checked [] [] None None
 abbrev pub said : Task → Asked
 said (task.Check source) = checked source.folder.now source.start.now (named_in source.late) (named_in source.tags)
 said (task.Seal source) = sealed source.folder.now source.start.now (named_in source.late) (named_in source.tags)
-said (task.Play source script lenient mjd) =
-    played source.folder.now source.start.now (named_in source.late) (named_in source.tags) script.now lenient mjd
+said (task.Play source script lenient mjd seal) =
+    played source.folder.now source.start.now (named_in source.late) (named_in source.tags) script.now lenient mjd (named_in seal)
 said (task.Convert file to tags) = converted file.now to (named_in tags)
 
 -- a play begins on a day on which one can
 abbrev pub HasDay : Task → Type 0
-HasDay (task.Play source script lenient mjd) = mjd ≤ last_day
+HasDay (task.Play source script lenient mjd seal) = mjd ≤ last_day
 HasDay t = Unit {0}

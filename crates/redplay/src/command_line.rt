@@ -32,6 +32,8 @@ pub enum Task<'a> {
         lenient: bool,
         /// The modified Julian day on which the play begins.
         mjd: u32,
+        /// The file with the seal by which the service is played, if one is named.
+        seal: Option<&'a str>,
     },
     /// The group of a file, in the notation that is wanted.
     Convert {
@@ -104,6 +106,7 @@ fn playing<'a>(given: &ArgMatches<'a>) -> Task<'a>
         script: text_of(given, "script"),
         lenient: is_set(given, "lenient"),
         mjd: day_of(given),
+        seal: file_of(given, "sealed"),
     }
 }
 

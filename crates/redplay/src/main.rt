@@ -10,10 +10,10 @@ use mh_base::GroupName;
 use mh_command::{
     Choice, Exit, Source, choice_of, files_of, read_option, tell_no_task, tell_unread, words_of,
 };
-use mh_folder::{Unread, read_file, read_input};
+use mh_folder::{Unread, read_file, read_input, read_named};
 pub use mh_report::{
     ListSink, Notation, Options, PlayError, Sink, Status, WriterSink, check_bytes, convert_bytes,
-    play_bytes, seal_bytes,
+    play_bytes, play_sealed_bytes, seal_bytes,
 };
 use std::io;
 use std::process::ExitCode;
@@ -36,13 +36,13 @@ fn run<R: Runtime + AllocGlobal>(rt: &R) -> io::Result<Exit> {
 
 /// Does a task, or tells what could not be read for it.
 fn perform<R: Runtime + AllocGlobal>(rt: &R, task: &Task) -> io::Result<Exit> {
-    match done(rt, task) {
+    match run_task(rt, task) {
         Ok(exit) => Ok(exit),
         Err(why) => tell_unread(rt, &why),
     }
 }
 
-fn done<R: Runtime + AllocGlobal>(rt: &R, task: &Task) -> Result<Exit, Unread> {
+fn run_task<R: Runtime + AllocGlobal>(rt: &R, task: &Task) -> Result<Exit, Unread> {
     match task {
         Task::Check(source) => checked(rt, source),
         Task::Seal(source) => sealed(rt, source),
@@ -51,7 +51,15 @@ fn done<R: Runtime + AllocGlobal>(rt: &R, task: &Task) -> Result<Exit, Unread> {
             script,
             lenient,
             mjd,
-        } => played(rt, source, script, *mjd, *lenient),
+            seal: None,
+        } => run_play(rt, source, script, *mjd, *lenient),
+        Task::Play {
+            source,
+            script,
+            mjd,
+            seal: Some(seal),
+            ..
+        } => played_by_seal(rt, source, seal, script, *mjd),
         Task::Convert { file, to, tags } => converted(rt, file, *to, *tags),
     }
 }
@@ -94,7 +102,7 @@ fn seal_files<R: Runtime + AllocGlobal>(
     Ok(exit_of(seal_bytes(rt.alloc(), files, &options, &mut sink)))
 }
 
-fn played<R: Runtime + AllocGlobal>(
+fn run_play<R: Runtime + AllocGlobal>(
     rt: &R,
     source: &Source,
     script: &str,
@@ -121,6 +129,44 @@ fn play_files<R: Runtime + AllocGlobal>(
         failures: 0,
     };
     let status = play_bytes(rt.alloc(), files, script.as_slice(), &options, &mut sink);
+    Ok(exit_of(status))
+}
+
+fn played_by_seal<R: Runtime + AllocGlobal>(
+    rt: &R,
+    source: &Source,
+    seal: &str,
+    script: &str,
+    mjd: u32,
+) -> Result<Exit, Unread> {
+    let files = files_of(rt, source.folder)?;
+    play_sealed_files(rt, files.as_slice(), source, seal, script, mjd)
+}
+
+/// Plays by a seal with those of these files that it wants, the script being read, then the seal, and then the tags.
+fn play_sealed_files<R: Runtime + AllocGlobal>(
+    rt: &R,
+    files: &[(GroupName, Vec<u8>)],
+    source: &Source,
+    seal: &str,
+    script: &str,
+    mjd: u32,
+) -> Result<Exit, Unread> {
+    let script = read_input(rt, script)?;
+    let seal = read_named(rt, seal)?;
+    let options = options_of(choice_of(rt, source)?, mjd, false);
+    let mut sink = WriterSink {
+        writer: io::writer(rt),
+        failures: 0,
+    };
+    let status = play_sealed_bytes(
+        rt.alloc(),
+        files,
+        seal.as_slice(),
+        script.as_slice(),
+        &options,
+        &mut sink,
+    );
     Ok(exit_of(status))
 }
 

@@ -8,7 +8,7 @@ ghost use Rattle.mh_command.specs.Arguments.{folder};
 ghost use Rattle.redplay.specs.CommandLine as spec;
 
 use clap::{Arg, Command};
-use mh_command::arguments::{flag, folder, mjd, path, script_to_play, tags};
+use mh_command::arguments::{flag, folder, mjd, named, path, script_to_play, tags};
 use mh_command::{bare, described, with_choices};
 use std::alloc::{AllocError, Global};
 
@@ -24,6 +24,9 @@ const SCRIPT: &str =
     "The script: a command a line, such as `run`, `key red`, `step 10`, `show`; `-` is standard input";
 
 const DAY: &str = "The modified Julian day on which the play begins, 0 to 1000000";
+
+const SEAL: &str =
+    "The seal by which the service is played, as `seal` prints it: late scenes need not be there; the start, late scenes and bounds are the seal's";
 
 /// What is told of the program.
 const ABOUT: &str = "Checks, plays and converts red-button television services";
@@ -48,10 +51,12 @@ const COMMANDS: &str =
   engine 3      an event of the engine, by its number
   file x 4869   the content file x comes, with its octets in hexadecimal digits
   scene s       the file of the late scene s comes; octets behind the name are read in its place
+  scene s a3..  and beside a seal, where no files are kept, they have to stand there
 
 Examples:
   redplay play examples/first/service --script examples/first/script
-  redplay play examples/late/service --script examples/late/script --late examples/late/late";
+  redplay play examples/late/service --script examples/late/script --late examples/late/late
+  redplay play examples/late/service --script examples/late/brought --sealed examples/late/seal";
 
 /// The program with all its subcommands.
 pub fn program<'a>(alloc: Global) -> Result<Command<'a>, AllocError>
@@ -149,7 +154,8 @@ fn play<'a>(alloc: Global) -> Result<Command<'a>, AllocError>
 {
     play_service(alloc)?
         .arg(mjd(alloc, DAY))?
-        .arg(lenient(alloc))
+        .arg(lenient(alloc))?
+        .arg(seal_file(alloc))
 }
 
 /// The subcommand with what has to be given, and what may be said of the service.
@@ -187,4 +193,11 @@ fn lenient<'a>(alloc: Global) -> Arg<'a>
     ensures local { result.global ≡ false }
 {
     flag(alloc, "lenient", "Play also a service that `check` refuses")
+}
+
+fn seal_file<'a>(alloc: Global) -> Arg<'a>
+    ensures rule { rule_of result ≡ spec.seal_file }
+    ensures local { result.global ≡ false }
+{
+    named(alloc, "sealed", "FILE").help(SEAL)
 }

@@ -6,5 +6,6 @@ mod Full
 mod PostLemmas
 mod PresetLemmas
 mod ReadingLemmas
+mod SealedStartLemmas
 mod StartLemmas
 mod VerdictLemmas

@@ -29,7 +29,7 @@ use Rattle.mh_told.specs.Reading.{◌>>=◌, Source, Fails, Gives, group_in, is_
 use Rattle.redplay_c.specs.Files.{IsUnreadable, reading_number}
 
 -- a number of an error: not 0, and none of the library's own
-abbrev IsSmall : ℕ → Type 0
+abbrev pub IsSmall : ℕ → Type 0
 IsSmall n = (0 < n) × (n < 100)
 
 -- what is read, or an error that has such a number
@@ -138,19 +138,40 @@ service_told tags start late files =
     bound (read_files tags [] files >>= service_of start) (with_late late)
     (bound (read_files tags [] files) (service_of start) (files_told tags [] files) (groups_told start)) (late_told late)
 
--- an error of reading that has a number is none of the library's own
+-- an error of reading that has a number is told, and the number is none of the library's own
+
+failed_read : {A : Type 0} (r : Result A Unplayable) (e : Unplayable) (n : ℕ) → Fails e r → reading_number e ≡ Some n → r ≡ Err e
+failed_read r (unplayable.File name number offset) n fails told = fails
+failed_read r (unplayable.Service number group) n fails told = fails
+failed_read r (unplayable.Tags number place) n fails told = fails
+failed_read r (unplayable.Script line) n fails told = fails
+failed_read r unplayable.NoMemory n fails told = cc
+
+failed_small : {A : Type 0} (r : Result A Unplayable) (e : Unplayable) (n : ℕ) → IsTold r → Fails e r → reading_number e ≡ Some n → IsSmall n
+failed_small {A} r (unplayable.File name number offset) n so fails told =
+    let small : IsSmall number = subst (λ (x : Result A Unplayable). IsTold x) fails so in
+    let same : number ≡ n = cc in
+    subst IsSmall same small
+failed_small {A} r (unplayable.Service number group) n so fails told =
+    let small : IsSmall number = subst (λ (x : Result A Unplayable). IsTold x) fails so in
+    let same : number ≡ n = cc in
+    subst IsSmall same small
+failed_small {A} r (unplayable.Tags number place) n so fails told = absurd (subst (λ (x : Result A Unplayable). IsTold x) fails so)
+failed_small r (unplayable.Script line) n so fails told = absurd cc
+failed_small r unplayable.NoMemory n so fails told = absurd cc
+
 unreadable : (r : Result Service Unplayable) (e : Unplayable) (n : ℕ) → IsTold r → Fails e r → reading_number e ≡ Some n → IsUnreadable r n
-unreadable r (unplayable.File name number offset) n so fails told =
-    let small : IsSmall number = subst (λ (x : Result Service Unplayable). IsTold x) fails so in
-    let same : number ≡ n = cc in
-    record { why = unplayable.File name number offset; read = fails; told = told; some = subst (λ (m : ℕ). 0 < m) same small.0; small = subst (λ (m : ℕ). m < 100) same small.1 }
-unreadable r (unplayable.Service number group) n so fails told =
-    let small : IsSmall number = subst (λ (x : Result Service Unplayable). IsTold x) fails so in
-    let same : number ≡ n = cc in
-    record { why = unplayable.Service number group; read = fails; told = told; some = subst (λ (m : ℕ). 0 < m) same small.0; small = subst (λ (m : ℕ). m < 100) same small.1 }
-unreadable r (unplayable.Tags number place) n so fails told = absurd (subst (λ (x : Result Service Unplayable). IsTold x) fails so)
-unreadable r (unplayable.Script line) n so fails told = cc
-unreadable r unplayable.NoMemory n so fails told = cc
+unreadable r e n so fails told =
+    let small : IsSmall n = failed_small r e n so fails told in
+    record { why = e; read = failed_read r e n fails told; told = told; some = small.0; small = small.1 }
+
+-- of groups alone
+
+pub unread_groups : (tags : Tags) (files : List Source) (e : Unplayable) (n : ℕ) → Fails e (read_files tags [] files) → reading_number e ≡ Some n → read_files tags [] files ≡ Err e
+unread_groups tags files e n fails told = failed_read (read_files tags [] files) e n fails told
+
+pub small_groups : (tags : Tags) (files : List Source) (e : Unplayable) (n : ℕ) → Fails e (read_files tags [] files) → reading_number e ≡ Some n → IsSmall n
+small_groups tags files e n fails told = failed_small (read_files tags [] files) e n (files_told tags [] files) fails told
 
 unread_service : (tags : Tags) (start : List ℕ) (late : Option (List ℕ)) (files : List Source) (e : Unplayable) (n : ℕ) → Fails e (service_read tags start late files) → reading_number e ≡ Some n
     → IsUnreadable (service_read tags start late files) n

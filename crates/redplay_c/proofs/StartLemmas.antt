@@ -25,7 +25,7 @@ use Rattle.mh_verify.specs.declared.refusal.RefusalKind.TheVariants as kind
 use Rattle.redplay_c.specs.Answers.{of_name, start_number}
 use Rattle.mh_script.specs.Contents.{contents}
 use Rattle.redplay_c.specs.Files.{AreHanded, Choice, IsUnreadable, chosen_service, have_paths, reading_number}
-use Rattle.redplay_c.specs.Playing.{Playing}
+use Rattle.redplay_c.specs.Playing.{Engined, Playing, of_whole}
 use Rattle.redplay_c.specs.Starts.{Bars, Begins, Halts, HasStarted, IsEngineOf, IsRefused, IsStarted, IsUnstarted, Judges, Plays, Refuses, Stops, Unsets, last_day, presets, refusal_of}
 use Rattle.redplay_c.specs.declared.crossing.Source.{Source}
 use Rattle.redplay_c.specs.declared.start_refusal.StartRefusal.{StartRefusal}
@@ -126,11 +126,11 @@ set_so set (Err w) x whole same good so = tt
 set_so (Ok u) (Ok s) x whole same good so = so ∙ ap (λ (g : Playing). Ok g.engine.state) (sym same)
 set_so (Err e) (Ok s) x whole same good so = absurd cc
 
-pub kept_so : (r : Result Playing StartRefusal) (p : Play) (seen : Planes) (whole : Playing) → IfOk r (λ g. g ≡ whole) → whole ≡ record { engine = record p { state = whole.engine.state }; seen = seen }
-    → IfOk r (λ s. s ≡ record { engine = record p { state = s.engine.state }; seen = seen })
+pub kept_so : (r : Result Playing StartRefusal) (p : Engined) (seen : Planes) (whole : Playing) → IfOk r (λ g. g ≡ whole) → whole ≡ record { engine = record p.play { state = whole.engine.state }; seal = p.seal; seen = seen }
+    → IfOk r (λ s. s ≡ record { engine = record p.play { state = s.engine.state }; seal = p.seal; seen = seen })
 kept_so (Err w) p seen whole same is = tt
 kept_so (Ok s) p seen whole same is =
-    subst (λ (g : Playing). g ≡ record { engine = record p { state = g.engine.state }; seen = seen }) (sym same) is
+    subst (λ (g : Playing). g ≡ record { engine = record p.play { state = g.engine.state }; seal = p.seal; seen = seen }) (sym same) is
 
 pub unset_so : (set : Result (Unit {0}) RefusedWhy) (r : Result Playing StartRefusal) (x : Result State RefusedWhy) → IfErr r (λ w. IsErrAnd set (λ u. w ≡ refusal_of u)) → IfErr set (λ u. Refuses u x) → IfErr r (λ w. Unsets x w)
 unset_so set (Ok s) x told so = tt
@@ -139,11 +139,17 @@ unset_so (Err u) (Err w) x told so = subst (λ (y : StartRefusal). Unsets x y) (
 
 -- A session of a service.
 
-pub plays_so : (c : Choice) (s : Service) (fs : List Content) (p : Play) (seen : Planes) (r : Result Playing StartRefusal) → IsEngineOf c s p → seen ≡ blank → IfOk r (λ x. presets fs p.state ≡ Ok x.engine.state)
-    → IfOk r (λ x. x ≡ record { engine = record p { state = x.engine.state }; seen = seen }) → IfOk r (λ x. Plays c s fs x)
-plays_so c s fs p seen (Err e) so black set same = tt
-plays_so c s fs p seen (Ok x) so black set same =
-    record { engine = p; begun = so; set = set; same = subst (λ (v : Planes). x ≡ record { engine = record p { state = x.engine.state }; seen = v }) black same }
+pub plays_so : (c : Choice) (s : Service) (fs : List Content) (p : Play) (q : Engined) (seen : Planes) (r : Result Playing StartRefusal) → IsEngineOf c s p → q ≡ of_whole p → seen ≡ blank → IfOk r (λ x. presets fs q.play.state ≡ Ok x.engine.state)
+    → IfOk r (λ x. x ≡ record { engine = record q.play { state = x.engine.state }; seal = q.seal; seen = seen }) → IfOk r (λ x. Plays c s fs x)
+plays_so c s fs p q seen (Err e) so is black set same = tt
+plays_so c s fs p q seen (Ok x) so is black set same =
+    record {
+      engine = p;
+      begun = so;
+      set = subst (λ (e : Engined). presets fs e.play.state ≡ Ok x.engine.state) is set;
+      same = subst (λ (e : Engined). x ≡ record { engine = record e.play { state = x.engine.state }; seal = e.seal; seen = blank }) is
+          (subst (λ (v : Planes). x ≡ record { engine = record q.play { state = x.engine.state }; seal = q.seal; seen = v }) black same);
+    }
 
 stopped : (c : Choice) (s : Service) (fs : List Content) (st : State) (w : StartRefusal) → st ≡ begun s c.day → Unsets (presets fs st) w → Stops c s fs w
 stopped c s fs st unstarted.NoMemory is so = tt
@@ -153,9 +159,9 @@ stopped c s fs st unstarted.NoDay is so = absurd so
 stopped c s fs st unstarted.NoPath is so = absurd so
 stopped c s fs st (unstarted.Unreadable n) is so = absurd so
 
-pub stops_so : (c : Choice) (s : Service) (fs : List Content) (p : Play) (r : Result Playing StartRefusal) → IsEngineOf c s p → IfErr r (λ w. Unsets (presets fs p.state) w) → IfErr r (λ w. Stops c s fs w)
-stops_so c s fs p (Ok x) so un = tt
-stops_so c s fs p (Err w) so un = stopped c s fs p.state w so.state un
+pub stops_so : (c : Choice) (s : Service) (fs : List Content) (p : Play) (q : Engined) (r : Result Playing StartRefusal) → IsEngineOf c s p → q ≡ of_whole p → IfErr r (λ w. Unsets (presets fs q.play.state) w) → IfErr r (λ w. Stops c s fs w)
+stops_so c s fs p q (Ok x) so is un = tt
+stops_so c s fs p q (Err w) so is un = stopped c s fs p.state w so.state (subst (λ (e : Engined). Unsets (presets fs e.play.state) w) is un)
 
 pub halts_so : (c : Choice) (s : Service) (fs : List Content) (w : StartRefusal) → Halts c s w → Stops c s fs w
 halts_so c s fs unstarted.NoMemory so = tt

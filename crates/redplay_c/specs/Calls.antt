@@ -1,36 +1,35 @@
 -- What the calls on a session do with it, each by the clauses of the engine's own call.
-use Rattle.std.specs.Prelude.{◌≡◌, ℕ, ◌≤◌, length, List, Option, Some, None, MatchOption, Result, Ok, Err, ◌⊎◌, slice_get}
+use Rattle.std.specs.Prelude.{◌≡◌, ℕ, ◌≤◌, codes, length, List, [], ◌∷◌, ◌++◌, Option, Some, None, MatchOption, Result, Ok, Err, ◌⊎◌, slice_get}
 use Rattle.std.specs.Bool.{MatchBool}
+use Rattle.std.specs.List.{flat_map}
 use Rattle.mh_base.specs.Path.{is_path}
+use Rattle.mh_carousel.specs.Carried.{awaited_names}
 use Rattle.mh_codec.specs.Tags.{profile}
-use Rattle.mh_machine.specs.Refusal.{post_refusal}
-use Rattle.mh_engine.specs.Play.{Play, with_more}
+use Rattle.mh_engine.specs.Play.{Play}
 use Rattle.mh_group.specs.declared.written.Written.{Written}
-use Rattle.mh_laws.specs.Budget.{Bounds as Limits, bound_of}
+use Rattle.mh_laws.specs.Budget.{Bounds as Limits}
 use Rattle.mh_machine.specs.Working.{IsPartly}
 use Rattle.mh_model.specs.declared.input.Input.{Input}
 use Rattle.mh_model.specs.declared.input.Input.TheVariants as input
 use Rattle.mh_model.specs.declared.key.Key.{Key}
-use Rattle.mh_model.specs.Step.{advanced, posted}
+use Rattle.mh_model.specs.declared.transition.Transition.{Transition}
+use Rattle.mh_model.specs.declared.transition.Transition.TheVariants as transition
+use Rattle.mh_model.specs.State.{State}
+use Rattle.mh_model.specs.Step.{advanced}
 use Rattle.mh_told.specs.declared.unplayable.Unplayable.{Unplayable}
 use Rattle.mh_told.specs.Reading.{group_in}
 use Rattle.mh_told.specs.Told.{fault_line}
 use Rattle.redplay_c.specs.declared.crossing.Bounds.{Bounds}
 use Rattle.redplay_c.specs.declared.crossing.Counts.{Counts}
-use Rattle.redplay_c.specs.Answers.{IsDone, no_key, no_memory, no_path, out_of_range, why_number}
+use Rattle.redplay_c.specs.Answers.{IsDone, no_key, no_memory, no_path, out_of_range}
 use Rattle.redplay_c.specs.Files.{reading_number}
-use Rattle.redplay_c.specs.Playing.{Playing}
+use Rattle.redplay_c.specs.Players.{IsTaken}
+use Rattle.redplay_c.specs.Playing.{Playing, player_of}
 use Rattle.redplay_c.specs.Verdicts.{IsPut, IsUnput}
 
--- the session behind an input that is posted
-abbrev pub behind_post : Input → Playing → Playing
-behind_post i s =
-    record s { engine = record s.engine { state = posted i s.engine.state; budget = with_more s.engine.budget (bound_of s.engine.bounds i) } }
-
--- what a post does: the input is posted, unless memory was refused; or the first number says why it is not, and nothing changes
+-- what a post does: what plays takes up the input or says why it does not, and what was seen stays
 abbrev pub IsPosted : Input → Playing → Playing → ℕ → Type 0
-IsPosted i s t n =
-    MatchOption (post_refusal i s.engine.state) (IsDone n (t ≡ behind_post i s) (t ≡ s)) (λ why. (n ≡ why_number why) × (t ≡ s))
+IsPosted i s t n = IsTaken i (player_of s) (player_of t) n × (t.seen ≡ s.seen)
 
 -- of a number that is no key's
 abbrev pub IsPressed : Option Key → Playing → Playing → ℕ → Type 0
@@ -62,7 +61,9 @@ pub record IsAdvanced (most : ℕ) (s t : Playing) (n : ℕ) : Type 0 where
   pub accepted : t.engine.accepted ≡ s.engine.accepted
   pub bounds : t.engine.bounds ≡ s.engine.bounds
   pub budget : t.engine.budget ≡ s.engine.budget
-  pub within : t.engine.state.taken ≤ t.engine.budget
+  pub seal : t.seal ≡ s.seal
+  -- by a seal that is not the service's own more may be taken than it states
+  pub within : s.seal ≡ None → t.engine.state.taken ≤ t.engine.budget
   pub seen : t.seen ≡ s.seen
 
 abbrev pub counts_of : Play → Counts
@@ -77,3 +78,23 @@ pub record IsFaultTold (at : ℕ) (before after : List ℕ) (old new : ℕ) (s t
       MatchOption (slice_get s.engine.state.faults at) ((n ≡ out_of_range) × IsUnput before after old new)
       (λ f. IsDone n (IsPut (fault_line f) before after new) (IsUnput before after old new))
   pub same : t ≡ s
+
+-- What is waited for is told, a line each: the scene for whose file a transition waits, then the content files.
+
+abbrev line_on : List ℕ → List ℕ → List ℕ
+line_on word name = (word ++ name) ++ 10 ∷ []
+
+abbrev pub scene_lines : Transition → List ℕ
+scene_lines (transition.Awaits scene) = line_on (codes "scene ") scene
+scene_lines _ = []
+
+abbrev pub file_line : List ℕ → List ℕ
+file_line name = line_on (codes "file ") name
+
+abbrev pub awaited_lines : State → List ℕ
+awaited_lines s = scene_lines s.transition ++ flat_map file_line (awaited_names s.waits)
+
+-- these lines stand in the room, unless memory was refused
+abbrev pub IsAwaitedTold : List ℕ → List ℕ → ℕ → ℕ → Playing → Playing → ℕ → Type 0
+IsAwaitedTold before after old new s t n =
+    IsDone n (IsPut (awaited_lines s.engine.state) before after new) (IsUnput before after old new) × (t ≡ s)

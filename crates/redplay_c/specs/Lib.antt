@@ -6,8 +6,10 @@ pub mod Keys
 pub mod Lent
 pub mod OnSession
 pub mod Owned
+pub mod Players
 pub mod Playing
 pub mod Rows
+pub mod SealedStarts
 pub mod Starts
 pub mod Texts
 pub mod Verdicts

@@ -53,7 +53,7 @@ pub record Plays (c : Choice) (service : Service) (files : List Content) (s : Pl
   pub engine : Play
   pub begun : IsEngineOf c service engine
   pub set : presets files engine.state ≡ Ok s.engine.state
-  pub same : s ≡ record { engine = record engine { state = s.engine.state }; seen = blank }
+  pub same : s ≡ record { engine = record engine { state = s.engine.state }; seal = None; seen = blank }
 
 -- the verifier refuses the service
 pub record IsRefused (service : Service) : Type 0 where

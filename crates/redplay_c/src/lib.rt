@@ -6,6 +6,7 @@
 #![tactic(auto)]
 
 mod answer;
+mod awaiting;
 mod bringing;
 mod choice;
 mod crossing;
@@ -13,8 +14,10 @@ mod exports;
 mod handle;
 mod keys;
 mod opening;
+mod player;
 mod preset;
 mod reading;
+mod sealed_opening;
 mod session;
 mod showing;
 mod start_refusal;

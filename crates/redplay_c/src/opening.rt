@@ -11,6 +11,7 @@ ghost use Rattle.redplay_c.specs.Starts.{Bars, Begins, Halts, IsEngineOf, IsStar
 
 use crate::choice::Choice;
 use crate::crossing::Source;
+use crate::player::{Kind, Player};
 use crate::preset::preset_all;
 use crate::reading::{owned_files, read_chosen};
 use crate::session::Session;
@@ -25,7 +26,7 @@ use mh_verify::{Accepted, RefusalKind, verify};
 use std::alloc::Global;
 
 /// The last modified Julian day on which a play may begin.
-const LAST_DAY: u32 = 1_000_000;
+pub(crate) const LAST_DAY: u32 = 1_000_000;
 
 impl Session {
     /// A session at the start of the service that the files make. The content files that the service names are there. Unless
@@ -126,30 +127,32 @@ impl Session {
         ensures refused { IfErr result (λ why. Stops choice.now service contents.now why) }
     {
         match engine_of(alloc, service, choice) {
-            Ok(engine) => Session::of_engine(alloc, engine, seen, contents),
+            Ok(engine) => {
+                Session::of_player(alloc, Player::of(Kind::Whole(engine)), seen, contents)
+            }
             Err(why) => Err(why),
         }
     }
 
-    /// A session of an engine that has begun, with these files there. It is handed what was seen, since a call that may be
+    /// A session of what plays and has begun, with these files there. It is handed what was seen, since a call that may be
     /// refused memory is dear beside an engine.
     #[tactic(auto, using(crate::proofs::StartLemmas::set_so, crate::proofs::StartLemmas::kept_so, crate::proofs::StartLemmas::unset_so))]
-    fn of_engine(
+    pub(crate) fn of_player(
         alloc: Global,
-        engine: Engine,
+        player: Player,
         seen: Picture,
         contents: &[File],
     ) -> Result<Session, StartRefusal>
-        ensures set { IfOk result (λ session. presets contents.now engine.state ≡ Ok session.engine.state) }
-        ensures same { IfOk result (λ session. session ≡ record { engine = record engine { state = session.engine.state }; seen = seen }) }
-        ensures refused { IfErr result (λ why. Unsets (presets contents.now engine.state) why) }
+        ensures set { IfOk result (λ session. presets contents.now player.play.state ≡ Ok session.engine.state) }
+        ensures same { IfOk result (λ session. session ≡ record { engine = record player.play { state = session.engine.state }; seal = player.seal; seen = seen }) }
+        ensures refused { IfErr result (λ why. Unsets (presets contents.now player.play.state) why) }
     {
         let mut session = Session {
             alloc,
-            engine,
+            player,
             seen,
         };
-        let set = preset_all(&mut session.engine, contents);
+        let set = preset_all(&mut session.player, contents);
         once_set(set, session)
     }
 }

@@ -1,21 +1,22 @@
-//! `Session`: an engine that plays, and the picture that its caller saw last.
+//! `Session`: what plays, and the picture that its caller saw last.
 ghost use Rattle.std.specs.Prelude.{◌≡◌};
 ghost use Rattle.mh_machine.specs.Rest.{rest_of};
 ghost use Rattle.redplay_c.specs.Answers.{rest_number};
 ghost use Rattle.redplay_c.specs.Calls.{IsPosted, IsAdvanced, bounds_of, counts_of};
 
-use crate::answer::{GOOD, NO_MEMORY, number_of};
+use crate::answer::{GOOD, NO_MEMORY};
 use crate::crossing::{Bounds, Counts};
-use mh_engine::{Engine, Refused, RefusedWhy, Rest};
+use crate::player::Player;
+use mh_machine::Rest;
 use mh_model::{Input, Picture};
 use std::alloc::Global;
 use std::marker::Model;
 
-/// An engine, and the picture against which its caller asks what changed. A contract sees both.
+/// What plays, and the picture against which its caller asks what changed. A contract sees both.
 #[derive(Drop)]
 pub struct Session {
     pub(crate) alloc: Global,
-    pub(crate) engine: Engine,
+    pub(crate) player: Player,
     pub(crate) seen: Picture,
 }
 
@@ -24,7 +25,7 @@ impl Model for Session {
 
     ghost Value = { Playing };
 
-    ghost view = { λ s. record { engine = s.engine; seen = s.seen } };
+    ghost view = { λ s. record { engine = s.player.play; seal = s.player.seal; seen = s.seen } };
 }
 
 impl Session {
@@ -32,17 +33,14 @@ impl Session {
     pub fn post(&mut self, input: Input) -> u32
         ensures { IsPosted input self.old self.new result }
     {
-        match self.engine.post(input) {
-            Ok(()) => GOOD,
-            Err(refused) => number_of(why_refused(refused)),
-        }
+        self.player.post(self.alloc, input)
     }
 
     /// Makes so many steps, or as many as there is something to do, and paints once.
     pub fn advance(&mut self, most: u32) -> u32
         ensures { IsAdvanced most self.old self.new result }
     {
-        match self.engine.advance(most) {
+        match self.player.advance(most) {
             Ok(()) => GOOD,
             Err(_) => NO_MEMORY,
         }
@@ -52,7 +50,7 @@ impl Session {
     pub fn rest(&self) -> u32
         ensures { result ≡ rest_number (rest_of self.now.engine.state) }
     {
-        match self.engine.rest() {
+        match self.player.machine().rest() {
             Rest::More => 0,
             Rest::Idle => 1,
             Rest::Ended => 2,
@@ -64,9 +62,9 @@ impl Session {
         ensures { result ≡ counts_of self.now.engine }
     {
         Counts {
-            taken: self.engine.taken(),
-            budget: self.engine.budget(),
-            faults: self.engine.faults().len() as u64,
+            taken: self.player.machine().taken(),
+            budget: self.player.budget(),
+            faults: self.player.machine().faults().len() as u64,
         }
     }
 
@@ -74,7 +72,7 @@ impl Session {
     pub fn bounds(&self) -> Bounds
         ensures { result ≡ bounds_of self.now.engine.bounds }
     {
-        let bounds = self.engine.bounds();
+        let bounds = self.player.bounds();
         Bounds {
             start: bounds.start,
             key: bounds.key,
@@ -84,12 +82,4 @@ impl Session {
             arrive: bounds.arrive,
         }
     }
-}
-
-/// Why an input was refused, without the input.
-fn why_refused(refused: Refused) -> RefusedWhy
-    ensures { result ≡ refused.why }
-{
-    let Refused { why, input: _ } = refused;
-    why
 }

@@ -1,11 +1,13 @@
 //! What is shown: which rows changed, and cells.
-ghost use Rattle.std.specs.Prelude.{◌≡◌, ◌≤◌, ◌<◌, ◌+◌, ◌*◌, ℕ, length, slice_index_or};
+ghost use Rattle.std.specs.Prelude.{◌≡◌, ◌≤◌, ◌<◌, ◌+◌, ◌*◌, ℕ, false, length, not, slice_index_or};
+ghost use Rattle.mh_display.specs.Rows.{same_row};
 ghost use Rattle.mh_model.specs.Picture.{shown};
 ghost use Rattle.redplay_c.specs.Rows.{AreRows, bits_of};
 ghost use Rattle.redplay_c.specs.Cells.{AreCells, cell_at, has_cells, no_cell};
 
 use crate::answer::{GOOD, OUT_OF_RANGE};
 use crate::crossing::Cell;
+use crate::player::{Kind, Player};
 use crate::session::Session;
 use mh_display::changed_rows;
 use mh_model::Picture;
@@ -18,10 +20,7 @@ impl Session {
         ensures rows { AreRows self.old.seen (shown self.old.engine.state) result }
         ensures seen { self.new ≡ record self.old { seen = shown self.old.engine.state } }
     {
-        let picture = self.engine.picture();
-        let rows = changed_rows(&self.seen, picture);
-        self.seen.copy_from(picture);
-        bits_of(&rows)
+        bits_of(&self.player.show(&mut self.seen))
     }
 
     /// The cells from the beginning of a row on, as many as there are places for.
@@ -32,9 +31,48 @@ impl Session {
         if !has_cells(row, cells.len()) {
             return OUT_OF_RANGE;
         }
-        copy_cells(self.engine.picture(), COLUMNS * row, cells);
+        self.player.copy_cells(COLUMNS * row, cells);
         GOOD
     }
+}
+
+impl Player {
+    /// The rows in which what is shown differs from the picture, which becomes it.
+    fn show(&mut self, seen: &mut Picture) -> [bool; 36]
+        ensures all { length result ≡ 36 }
+        ensures each { (j : ℕ) → j < 36 → slice_index_or result j false ≡ not (same_row seen.old (shown self.old.play.state) j) }
+        ensures seen { seen.new ≡ shown self.old.play.state }
+        ensures same { self.new ≡ self.old }
+    {
+        match &mut self.kind {
+            Kind::Whole(engine) => next_rows(seen, engine.picture()),
+            Kind::Sealed(engine) => next_rows(seen, engine.picture()),
+        }
+    }
+
+    /// Copies cells of what is shown, from this one on.
+    fn copy_cells(&mut self, first: usize, cells: &mut [Cell])
+        requires { first + length cells.old ≤ 2160 }
+        ensures all { length cells.new ≡ length cells.old }
+        ensures each { (j : ℕ) → j < length cells.old → slice_index_or cells.new j no_cell ≡ cell_at (shown self.old.play.state) (first + j) }
+        ensures same { self.new ≡ self.old }
+    {
+        match &mut self.kind {
+            Kind::Whole(engine) => copy_cells(engine.picture(), first, cells),
+            Kind::Sealed(engine) => copy_cells(engine.picture(), first, cells),
+        }
+    }
+}
+
+/// The rows in which the pictures differ; the first becomes the second.
+fn next_rows(seen: &mut Picture, picture: &Picture) -> [bool; 36]
+    ensures all { length result ≡ 36 }
+    ensures each { (j : ℕ) → j < 36 → slice_index_or result j false ≡ not (same_row seen.old picture.now j) }
+    ensures seen { seen.new ≡ picture.now }
+{
+    let rows = changed_rows(seen, picture);
+    seen.copy_from(picture);
+    rows
 }
 
 /// Whether there are so many cells from the beginning of this row on.

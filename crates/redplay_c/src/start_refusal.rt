@@ -1,5 +1,7 @@
 //! Why there is no session.
 ghost use Rattle.std.specs.Prelude.{◌≡◌};
+ghost use Rattle.mh_engine.specs.Sealed.{unsealed_number};
+ghost use Rattle.mh_seal.specs.Numbers.{error_number};
 ghost use Rattle.redplay_c.specs.Answers.{of_name, start_number};
 ghost use Rattle.redplay_c.specs.Files.{reading_number};
 ghost use Rattle.redplay_c.specs.Starts.{refusal_of};
@@ -7,7 +9,8 @@ ghost use Rattle.std.specs.Option.{option_map_or};
 
 use crate::answer::{NO_MEMORY, NO_PATH, OUT_OF_RANGE, UNACCEPTED, number_of, reading_number};
 use mh_base::NameError;
-use mh_engine::RefusedWhy;
+use mh_engine::{RefusedWhy, Unsealed};
+use mh_seal::SealError;
 use mh_told::unplayable::Unplayable;
 use std::alloc::AllocError;
 
@@ -65,6 +68,26 @@ impl StartRefusal {
         ensures { result ≡ option_map_or StartRefusal.Unreadable (reading_number why.now) StartRefusal.NoMemory }
     {
         match reading_number(why) {
+            Some(number) => StartRefusal::Unreadable(number),
+            None => StartRefusal::NoMemory,
+        }
+    }
+
+    /// Why there is none where the bytes are no seal.
+    pub fn of_seal(why: SealError) -> StartRefusal
+        ensures { result ≡ option_map_or StartRefusal.Unreadable (error_number why) StartRefusal.NoMemory }
+    {
+        match why.number() {
+            Some(number) => StartRefusal::Unreadable(number),
+            None => StartRefusal::NoMemory,
+        }
+    }
+
+    /// Why there is none where no engine begins by the seal.
+    pub fn of_unsealed(why: &Unsealed) -> StartRefusal
+        ensures { result ≡ option_map_or StartRefusal.Unreadable (unsealed_number why.now) StartRefusal.NoMemory }
+    {
+        match why.number() {
             Some(number) => StartRefusal::Unreadable(number),
             None => StartRefusal::NoMemory,
         }

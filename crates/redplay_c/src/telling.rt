@@ -18,7 +18,7 @@ impl Session {
     pub fn fault(&self, at: usize, text: &mut [u8], length: &mut usize) -> u32
         ensures { IsFaultTold at text.old text.new length.old length.new self.now self.now result }
     {
-        match self.engine.faults().get(at) {
+        match self.player.machine().faults().get(at) {
             Some(fault) => tell(self.alloc, fault, text, length),
             None => OUT_OF_RANGE,
         }

@@ -5,12 +5,12 @@ ghost use Rattle.std.specs.Option.{option_map};
 ghost use Rattle.redplay_c.specs.Texts.{numbers, text_of, texts};
 
 /// The numbers that calls answer. Each has its text at the same place of `TEXTS`.
-static NUMBERS: [u32; 40] = [
+static NUMBERS: [u32; 44] = [
     0, 1, 2, 3, 4, 5, 6, 7, 10, 11, 12, 13, 14, 20, 21, 22, 23, 24, 30, 31, 32, 33, 34, 35, 37, 40,
-    41, 51, 52, 53, 54, 57, 58, 100, 101, 102, 104, 105, 106, 107,
+    41, 51, 52, 53, 54, 57, 58, 70, 71, 72, 73, 100, 101, 102, 104, 105, 106, 107,
 ];
 
-static TEXTS: [&[u8]; 40] = [
+static TEXTS: [&[u8]; 44] = [
     b"what was asked for is done",
     b"the bytes end before the element does, or where one is wanted",
     b"a tag's number is not in its shortest form, or is above 65,535",
@@ -44,6 +44,10 @@ static TEXTS: [&[u8]; 40] = [
     b"a tick is not of 1 to 60,000 milliseconds",
     b"no file of this scene is awaited",
     b"the scene is another one than that of the service",
+    b"the bytes are no seal",
+    b"the seal is of another version of its notation",
+    b"the file of a group is not there that the seal tells to be here from the start",
+    b"the tags of the binary notation are not those of which the seal tells",
     b"memory was refused",
     b"the handle has no session",
     b"the verifier does not accept the service",

@@ -1,12 +1,13 @@
 //! The words of the command line: what the program is asked to do.
 //!
 //! What the words mean, which are refused and why are `clap`'s rules over `program`.
+use crate::parts::{object_in, part_in};
 use crate::program::{MOST_KEYS, MOST_READS, MOST_STEPS, MOST_TOLD, program};
 use clap::ArgMatches;
 use mh_base::{GroupName, NameError, ObjRef};
 use mh_command::values::{day_of, file_of, is_set, number_of, text_of};
 use mh_command::{NoTask, Source, matches_of, source_of};
-use mh_try::{Form, Telling};
+use mh_try::{Form, Part, Telling};
 use std::alloc::{AllocError, Global};
 
 /// What is asked for, and of which service.
@@ -37,8 +38,8 @@ pub enum Asked<'a> {
         script: &'a str,
         /// Behind how many steps.
         at: u64,
-        /// The object that alone is told.
-        object: Option<ObjRef>,
+        /// What is told of it.
+        part: Part,
     },
     /// What scripts do of a service.
     Cover {
@@ -46,19 +47,45 @@ pub enum Asked<'a> {
         /// Whether it is printed for test harnesses.
         tap: bool,
     },
-    /// A script that leads to a fault.
-    Find {
-        /// How many inputs it has at most, and how many steps are made behind each.
-        keys: u32,
-        steps: u32,
-    },
+    /// A script that leads somewhere.
+    Find(FindOptions<'a>),
     /// A play at a terminal.
-    Live {
-        /// The file to which the script is written that plays the same.
-        record: Option<&'a str>,
-        /// How often the terminal is read at most.
-        reads: u32,
-    },
+    Live(LiveOptions<'a>),
+}
+
+/// Which script is looked for.
+#[derive(Drop)]
+pub struct FindOptions<'a> {
+    pub aim: Aim<'a>,
+    /// How many inputs it has at most, and how many steps are made behind each.
+    pub keys: u32,
+    pub steps: u32,
+}
+
+/// Where a script is to lead.
+#[derive(Drop)]
+pub enum Aim<'a> {
+    /// To a fault.
+    Fault,
+    /// To more steps than are made.
+    More,
+    /// To this scene.
+    Scene(GroupName),
+    /// To a picture that shows this text.
+    Shown(&'a str),
+}
+
+/// How a service is played at a terminal.
+#[derive(Drop)]
+pub struct LiveOptions<'a> {
+    /// The file in which the script is kept that plays the same.
+    pub record: Option<&'a str>,
+    /// The folder with the content files that come as they are asked for.
+    pub files: Option<&'a str>,
+    /// The file that tells the size of the window.
+    pub window: Option<&'a str>,
+    /// How often the terminal is read at most.
+    pub reads: u32,
 }
 
 /// Why nothing is tried.
@@ -68,8 +95,16 @@ pub enum LineError {
     NoTask(NoTask),
     /// What `--only` or `--object` names is no object.
     NoObject,
+    /// What `--cell` names is no cell.
+    NoCell,
+    /// An object and a cell are asked for.
+    ManyParts,
     /// `--format` names no form.
     NoForm,
+    /// What `--to` names is no path.
+    NoScene,
+    /// `find` is to look for several things.
+    ManyAims,
 }
 
 impl From<NoTask> for LineError {
@@ -128,33 +163,57 @@ fn asked_under<'a>(
         "state" => Ok(Asked::State {
             script: text_of(given, "script"),
             at: number_of(given, "at", MOST_TOLD),
-            object: object_in(alloc, given, "object")?,
+            part: part_in(alloc, given)?,
         }),
         "cover" => Ok(Asked::Cover {
             scripts: texts_of(alloc, given, "SCRIPT")?,
             tap: is_set(given, "tap"),
         }),
-        "find" => Ok(Asked::Find {
-            keys: number_of(given, "keys", MOST_KEYS) as u32,
-            steps: number_of(given, "steps", MOST_STEPS) as u32,
-        }),
-        _ => Ok(Asked::Live {
-            record: file_of(given, "record"),
-            reads: number_of(given, "reads", MOST_READS) as u32,
-        }),
+        "find" => Ok(Asked::Find(find_options(alloc, given)?)),
+        _ => Ok(Asked::Live(live_options(given))),
     }
 }
 
-/// The object that this option names, if it is given.
-fn object_in(
-    alloc: Global,
-    given: &ArgMatches<'_>,
-    option: &str,
-) -> Result<Option<ObjRef>, LineError> {
-    match given.get_strs(option) {
-        None => Ok(None),
-        Some([group, number]) => Ok(Some(object_of(alloc, *group, *number)?)),
-        Some(_) => Err(LineError::NoObject),
+fn find_options<'a>(alloc: Global, given: &ArgMatches<'a>) -> Result<FindOptions<'a>, LineError> {
+    let aim = aim_of(alloc, given)?;
+    let steps = match given.get_str("over") {
+        Some(_) => "over",
+        None => "steps",
+    };
+    Ok(FindOptions {
+        aim,
+        keys: number_of(given, "keys", MOST_KEYS) as u32,
+        steps: number_of(given, steps, MOST_STEPS) as u32,
+    })
+}
+
+/// What is looked for: one thing at most is asked for, and a fault where none is.
+fn aim_of<'a>(alloc: Global, given: &ArgMatches<'a>) -> Result<Aim<'a>, LineError> {
+    let (to, shows) = (given.get_str("to"), given.get_str("shows"));
+    let is_more = is_set(given, "endless") || given.get_str("over").is_some();
+    match (is_more, to, shows) {
+        (false, None, None) => Ok(Aim::Fault),
+        (true, None, None) => Ok(Aim::More),
+        (false, Some(scene), None) => Ok(Aim::Scene(scene_of(alloc, scene)?)),
+        (false, None, Some(text)) => Ok(Aim::Shown(text)),
+        _ => Err(LineError::ManyAims),
+    }
+}
+
+fn scene_of(alloc: Global, path: &str) -> Result<GroupName, LineError> {
+    match GroupName::of_path(alloc, path.as_bytes()) {
+        Ok(scene) => Ok(scene),
+        Err(NameError::BadName) => Err(LineError::NoScene),
+        Err(NameError::NoMemory) => Err(LineError::NoTask(NoTask::NoMemory)),
+    }
+}
+
+fn live_options<'a>(given: &ArgMatches<'a>) -> LiveOptions<'a> {
+    LiveOptions {
+        record: file_of(given, "record"),
+        files: file_of(given, "files"),
+        window: file_of(given, "window"),
+        reads: number_of(given, "reads", MOST_READS) as u32,
     }
 }
 
@@ -172,17 +231,6 @@ fn form_of(name: &str) -> Result<Form, LineError> {
         "text" => Ok(Form::Text),
         "json" => Ok(Form::Json),
         _ => Err(LineError::NoForm),
-    }
-}
-
-fn object_of(alloc: Global, group: &str, number: &str) -> Result<ObjRef, LineError> {
-    let Ok(number) = number.parse::<u32>() else {
-        return Err(LineError::NoObject);
-    };
-    match GroupName::of_path(alloc, group.as_bytes()) {
-        Ok(group) => Ok(ObjRef { group, number }),
-        Err(NameError::BadName) => Err(LineError::NoObject),
-        Err(NameError::NoMemory) => Err(LineError::NoTask(NoTask::NoMemory)),
     }
 }
 

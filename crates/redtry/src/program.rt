@@ -1,4 +1,5 @@
 //! The program as `clap` sees it: its subcommands and options, with the texts of its help.
+use clap::builder::ValueParser;
 use clap::{Arg, ArgAction, Command};
 use mh_command::arguments::{flag, folder, mjd, named, number, script_to_play};
 use mh_command::{bare, described, with_choices};
@@ -44,7 +45,13 @@ const KEYS: &str = "Keys:
   r g y b t       red, green, yellow, blue, text
   s               an event of a stream, the first that a link waits for
   e               an event of the engine, the first that a link waits for
+  l               the file of the late scene that is awaited
+  f               the next content file of --files
+  < and >         a step back and forth: the play up to an input before
+  Ctrl-L          draws everything again
   q               ends it
+
+Each second without a key the files of the service are read again; where they have changed, what was pressed is played again.
 
 The program bin/redtry puts the terminal into the mode in which keys come as they are pressed.
 
@@ -58,7 +65,8 @@ const TRACE: &str = "Examples:
 
 const STATE: &str = "Examples:
   redtry state examples/first/service --script examples/first/script --at 12
-  redtry state examples/first/service --script examples/first/script --object s 10";
+  redtry state examples/first/service --script examples/first/script --object s 10
+  redtry state examples/first/service --script examples/first/script --cell 2 1";
 
 const COVER: &str = "Example:
   redtry cover examples/first/service examples/first/script";
@@ -66,8 +74,10 @@ const COVER: &str = "Example:
 const FIND: &str =
     "Where none is found, that proves nothing: `redplay check` says what cannot go wrong.
 
-Example:
-  redtry find examples/broken/service > script && redplay play examples/broken/service --script script --lenient";
+Examples:
+  redtry find examples/broken/service > script && redplay play examples/broken/service --script script --lenient
+  redtry find examples/late/service --to help
+  redtry find examples/late/service --shows 'Rain, then sun'";
 
 /// The program with all its subcommands.
 pub fn program<'a>(alloc: Global) -> Result<Command<'a>, AllocError> {
@@ -93,6 +103,8 @@ fn live<'a>(alloc: Global) -> Result<Command<'a>, AllocError> {
         KEYS,
     )?
     .arg(record(alloc))?
+    .arg(files(alloc))?
+    .arg(window(alloc))?
     .arg(reads(alloc))
 }
 
@@ -124,7 +136,8 @@ fn state<'a>(alloc: Global) -> Result<Command<'a>, AllocError> {
     )?
     .arg(script_to_play(alloc, SCRIPT))?
     .arg(at(alloc))?
-    .arg(object(alloc))
+    .arg(object(alloc))?
+    .arg(cell(alloc))
 }
 
 fn cover<'a>(alloc: Global) -> Result<Command<'a>, AllocError> {
@@ -142,11 +155,15 @@ fn find<'a>(alloc: Global) -> Result<Command<'a>, AllocError> {
     of_service(
         alloc,
         "find",
-        "Looks for a script that leads a service to a fault",
+        "Looks for a script that leads to a fault, to work that does not end, to a scene or to a text",
         FIND,
     )?
     .arg(keys(alloc))?
-    .arg(steps(alloc))
+    .arg(steps(alloc))?
+    .arg(endless(alloc))?
+    .arg(over(alloc))?
+    .arg(to(alloc))?
+    .arg(shows(alloc))
 }
 
 /// A subcommand with what is said of the service.
@@ -162,7 +179,19 @@ fn of_service<'a>(
 
 fn record<'a>(alloc: Global) -> Arg<'a> {
     named(alloc, "record", "FILE").help(
-        "Writes the keys that were pressed to this file, as a script",
+        "Keeps the keys that were pressed in this file, as a script",
+    )
+}
+
+fn files<'a>(alloc: Global) -> Arg<'a> {
+    named(alloc, "files", "FOLDER").help(
+        "Content files that are not there at the start: `f` brings them, one at a time",
+    )
+}
+
+fn window<'a>(alloc: Global) -> Arg<'a> {
+    named(alloc, "window", "FILE").help(
+        "The file that tells the rows and columns of the window; bin/redtry writes it",
     )
 }
 
@@ -210,6 +239,12 @@ fn object<'a>(alloc: Global) -> Arg<'a> {
         .help("Tells this object alone, with its attributes as they are")
 }
 
+fn cell<'a>(alloc: Global) -> Arg<'a> {
+    named(alloc, "cell", "COLUMN ROW").num_args(2).help(
+        "Tells what lies at this cell, from the top down, and why what is not seen is not",
+    )
+}
+
 fn scripts<'a>(alloc: Global) -> Arg<'a> {
     Arg::new(alloc, "SCRIPT")
         .required(true)
@@ -234,4 +269,26 @@ fn steps<'a>(alloc: Global) -> Arg<'a> {
     number(alloc, "steps", "10000", MOST_STEPS).help(
         "How many steps are made behind each input at most",
     )
+}
+
+fn endless<'a>(alloc: Global) -> Arg<'a> {
+    flag(
+        alloc,
+        "endless",
+        "Looks for a script behind which more is to be done than the steps that are made",
+    )
+}
+
+fn over<'a>(alloc: Global) -> Arg<'a> {
+    named(alloc, "over", "N")
+        .value_parser(ValueParser::unsigned(0, MOST_STEPS))
+        .help("Looks for a script with an input that leads to more than N steps")
+}
+
+fn to<'a>(alloc: Global) -> Arg<'a> {
+    named(alloc, "to", "GROUP").help("Looks for a script that leads to this scene")
+}
+
+fn shows<'a>(alloc: Global) -> Arg<'a> {
+    named(alloc, "shows", "TEXT").help("Looks for a script behind which a row shows this text")
 }

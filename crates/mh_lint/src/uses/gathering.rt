@@ -155,6 +155,18 @@ fn has_transition(acts: &[Act]) -> bool
     acts.iter().any(|act| is_transit(act.name))
 }
 
+fn is_unlock(name: ActionName) -> bool
+    ensures { result ≡ spec.is_unlock name }
+{
+    matches!(name, ActionName::UnlockScreen)
+}
+
+fn has_unlock(acts: &[Act]) -> bool
+    ensures { result ≡ list_any (λ a. spec.is_unlock a.name) acts.now }
+{
+    acts.iter().any(|act| is_unlock(act.name))
+}
+
 /// What is known of timers.
 fn timers_of(alloc: Global, objects: &[FixedPart], acts: &[Act]) -> Result<KnownTimers, AllocError>
     ensures { IfOk result (λ timers. timers ≡ record { heard = flat_map spec.heard_by objects.now; timed = flat_map spec.set_by acts.now }) }
@@ -168,24 +180,26 @@ fn timers_of(alloc: Global, objects: &[FixedPart], acts: &[Act]) -> Result<Known
 /// What is changed: what is moved and given another size; other words and another colour of its text.
 type Changed = ((Targets, Targets), (Targets, Targets));
 
-/// What is run, and which variables are read; and timers.
-type Other = ((Targets, Targets), KnownTimers);
+/// What is run, which variables are read and what is let interact; and timers.
+type Other = (((Targets, Targets), Targets), KnownTimers);
 
 /// All of it, each made by a call that ends with it, so that none stands beside a `?`.
-fn uses_with(parts: (Changed, Other), has_transition: bool) -> Uses
+fn uses_with(parts: (Changed, Other), has_transition: bool, has_unlock: bool) -> Uses
     ensures { result ≡ record {
       moved = parts.0.0.0;
       resized = parts.0.0.1;
       reworded = parts.0.1.0;
       tinted = parts.0.1.1;
-      run = parts.1.0.0;
-      read = parts.1.0.1;
+      run = parts.1.0.0.0;
+      read = parts.1.0.0.1;
+      touched = parts.1.0.1;
       heard = parts.1.1.heard;
       timed = parts.1.1.timed;
       has_transition = has_transition;
+      has_unlock = has_unlock;
     } }
 {
-    let (((moved, resized), (reworded, tinted)), ((run, read), timers)) = parts;
+    let (((moved, resized), (reworded, tinted)), (((run, read), touched), timers)) = parts;
     Uses {
         moved,
         resized,
@@ -193,8 +207,10 @@ fn uses_with(parts: (Changed, Other), has_transition: bool) -> Uses
         tinted,
         run,
         read,
+        touched,
         timers,
         has_transition,
+        has_unlock,
     }
 }
 
@@ -211,9 +227,10 @@ fn uses_in(alloc: Global, objects: &[FixedPart], acts: &[Act]) -> Result<Uses, A
         changed_of(alloc, Change::Colour, acts),
     );
     let lives = both(run_of(alloc, objects, acts), read_of(alloc, acts));
-    let other = both(lives, timers_of(alloc, objects, acts));
+    let inputs = both(lives, changed_of(alloc, Change::Interaction, acts));
+    let other = both(inputs, timers_of(alloc, objects, acts));
     match both(both(boxes, words), other) {
-        Ok(parts) => Ok(uses_with(parts, has_transition(acts))),
+        Ok(parts) => Ok(uses_with(parts, has_transition(acts), has_unlock(acts))),
         Err(why) => Err(why),
     }
 }

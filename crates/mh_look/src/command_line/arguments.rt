@@ -9,7 +9,7 @@ ghost use Rattle.mh_look.specs.CommandLine as spec;
 use clap::builder::ValueParser;
 use clap::{Arg, ArgAction};
 use mh_command::arguments;
-use mh_command::arguments::{flag, named, path};
+use mh_command::arguments::{flag, named, number, path};
 use std::alloc::Global;
 
 /// What is said of the file with a report.
@@ -23,6 +23,12 @@ const TEXT: &str = "text";
 
 /// The largest number that a frame can be asked for under.
 pub const LAST_FRAME: u64 = 1_000_000_000;
+
+/// How many refusals are told where nothing is said of it.
+const TWENTY: &str = "20";
+
+/// The most refusals that can be asked for.
+pub const MOST_REFUSALS: u64 = 1_000;
 
 pub(crate) fn report<'a>(alloc: Global) -> Arg<'a>
     ensures rule { rule_of result ≡ spec.report }
@@ -145,5 +151,14 @@ pub(crate) fn format<'a>(alloc: Global) -> Arg<'a>
 {
     named(alloc, "format", "FORM").default_value(TEXT).help(
         "The form of findings: text; short, a line each as compilers print them; json; or github, annotations",
+    )
+}
+
+pub(crate) fn most<'a>(alloc: Global) -> Arg<'a>
+    ensures rule { rule_of result ≡ spec.most }
+    ensures local { result.global ≡ false }
+{
+    number(alloc, "most", TWENTY, MOST_REFUSALS).help(
+        "The most refusals that are told, in any form but text",
     )
 }

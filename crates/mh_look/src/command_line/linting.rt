@@ -9,10 +9,11 @@ ghost use Rattle.mh_command.specs.Values.{named_in};
 ghost use Rattle.mh_look.specs.CommandLine.{explained_as, looked_as, said};
 ghost use Rattle.mh_look.specs.CommandLine as spec;
 
+use crate::command_line::arguments::MOST_REFUSALS;
 use crate::command_line::{Check, Explain, Lint, Task};
 use clap::ArgMatches;
 use mh_command::source_of;
-use mh_command::values::{is_set, text_of};
+use mh_command::values::{is_set, number_of, text_of};
 use mh_lint::{Allowed, Asked, RULES, Rule};
 use mh_misread::is_like;
 
@@ -30,6 +31,7 @@ pub(crate) fn checking<'a>(given: &ArgMatches<'a>) -> Task<'a>
     Task::Check(Check {
         lint: looking(given),
         format: text_of(given, "format"),
+        most: number_of(given, "most", MOST_REFUSALS) as usize,
     })
 }
 
@@ -77,11 +79,15 @@ fn allowed(given: &ArgMatches<'_>) -> Allowed
         negative_size: allows(given, Rule::NegativeSize),
         colour_octets: allows(given, Rule::ColourOctets),
         unheard_timer: allows(given, Rule::UnheardTimer),
+        locked_for_ever: allows(given, Rule::LockedForEver),
         unread_variable: allows(given, Rule::UnreadVariable),
+        no_interaction: allows(given, Rule::NoInteraction),
         off_screen: allows(given, Rule::OffScreen),
         covers_no_cell: allows(given, Rule::CoversNoCell),
         cut_text: allows(given, Rule::CutText),
         text_in_its_colour: allows(given, Rule::TextInItsColour),
+        bare_line_feeds: allows(given, Rule::BareLineFeeds),
+        named_alike: allows(given, Rule::NamedAlike),
         content_to_come: allows(given, Rule::ContentToCome),
     }
 }

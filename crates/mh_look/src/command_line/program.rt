@@ -9,8 +9,8 @@ ghost use Rattle.mh_command.specs.Arguments.{folder};
 ghost use Rattle.mh_look.specs.CommandLine as spec;
 
 use crate::command_line::arguments::{
-    all, allow, color, costs, format, frame, lines, other, output, plain, report, script, subject,
-    subject_folder,
+    all, allow, color, costs, format, frame, lines, most, other, output, plain, report, script,
+    subject, subject_folder,
 };
 use clap::Command;
 use mh_command::arguments::folder;
@@ -63,8 +63,9 @@ Examples:
 
 /// What is told behind the help of `check`.
 const CHECK_EXAMPLES: &str =
-    "It tells what of the files cannot be read; or else what the verifier refuses; or else what
-never happens, and what seems to be a mistake. Text is that of `why` or of `lint`.
+    "It tells what of the files cannot be read; or else what the verifier refuses, the first of a
+place, in its order; or else what never happens, and what seems to be a mistake. Text is that of
+`why`, which tells the first refusal alone, or of `lint`.
 
 Exit status:
   0  the service is accepted, and nothing is found
@@ -192,7 +193,10 @@ fn check<'a>(alloc: Global) -> Result<Command<'a>, AllocError>
     ensures app { IfOk result (λ c. app_of c ≡ spec.check) }
     ensures local { IfOk result (λ c. (fields_of c).has_globals ≡ false) }
 {
-    check_rules(alloc)?.arg(format(alloc))?.arg(color(alloc))
+    check_rules(alloc)?
+        .arg(format(alloc))?
+        .arg(most(alloc))?
+        .arg(color(alloc))
 }
 
 /// The subcommand with what is told of an accepted service.

@@ -3,8 +3,8 @@
 use crate::command_line::Check;
 use crate::doing::answering::{Answer, Read};
 use crate::doing::explaining::read_given;
-use crate::doing::linting::{linted, no_rule};
-use crate::doing::{Outcome, written};
+use crate::doing::linting::{no_rule, run_lint};
+use crate::doing::{Outcome, write_text};
 use crate::source::{Failure, unformed};
 use mh_findings::{Finding, Format, Grade, put_findings};
 use mh_folder::{Folder, folder_of};
@@ -14,16 +14,16 @@ use std::alloc::{AllocError, Global};
 use std::rt::Runtime;
 
 /// Writes what is found of the service; an error where nothing can be told.
-pub(crate) fn checked<R: Runtime + AllocGlobal>(
+pub(crate) fn run_check<R: Runtime + AllocGlobal>(
     rt: &R,
     wanted: &Check<'_>,
     is_terminal: bool,
 ) -> Result<Outcome, Failure> {
     if wanted.format == "text" {
-        return linted(rt, &wanted.lint, is_terminal);
+        return run_lint(rt, &wanted.lint, is_terminal);
     }
     match format_named(wanted.format) {
-        Some(format) => listed(rt, wanted, format),
+        Some(format) => run_list(rt, wanted, format),
         None => Err(unformed(rt.alloc(), wanted.format)),
     }
 }
@@ -39,7 +39,7 @@ pub fn format_named(word: &str) -> Option<Format> {
 }
 
 /// Writes the list of what is found in this form.
-fn listed<R: Runtime + AllocGlobal>(
+fn run_list<R: Runtime + AllocGlobal>(
     rt: &R,
     wanted: &Check<'_>,
     format: Format,
@@ -48,11 +48,11 @@ fn listed<R: Runtime + AllocGlobal>(
         return Err(no_rule(rt.alloc(), name)?);
     }
     let given = read_given(rt, &wanted.lint.service)?;
-    listed_with(rt, wanted, format, &given)
+    write_list(rt, wanted, format, &given)
 }
 
 /// The same, of the files that options name.
-fn listed_with<R: Runtime + AllocGlobal>(
+fn write_list<R: Runtime + AllocGlobal>(
     rt: &R,
     wanted: &Check<'_>,
     format: Format,
@@ -60,7 +60,7 @@ fn listed_with<R: Runtime + AllocGlobal>(
 ) -> Result<Outcome, Failure> {
     let folder = folder_of(rt, wanted.lint.service.source.folder)?;
     let answer = list_of(rt.alloc(), wanted, format, given, &folder)?;
-    written(rt, &answer.text, answer.outcome)
+    write_text(rt, &answer.text, answer.outcome)
 }
 
 /// The list of what is found of the files of a folder, in this form.
@@ -102,6 +102,7 @@ fn found_in(
         source.start.as_bytes(),
         given.late.as_ref().map(|bytes| bytes.as_slice()),
         wanted.lint.asked,
+        wanted.most,
     )
 }
 

@@ -1,7 +1,7 @@
 //! What is done for `why`: the files are read, and what is explained of them is written.
 use crate::command_line::Explain;
 use crate::doing::answering::{Read, answer_of};
-use crate::doing::{Outcome, written};
+use crate::doing::{Outcome, write_text};
 use crate::source::{Failure, output_of, uncoloured};
 use mh_folder::{Folder, folder_of};
 use mh_told::text::Text;
@@ -10,29 +10,29 @@ use std::alloc::Global;
 use std::rt::Runtime;
 
 /// Writes what is explained; an error where nothing is.
-pub(crate) fn explained<R: Runtime + AllocGlobal>(
+pub(crate) fn run_why<R: Runtime + AllocGlobal>(
     rt: &R,
     asked: &Explain<'_>,
     is_terminal: bool,
 ) -> Result<Outcome, Failure> {
     let is_painted = is_painted(rt.alloc(), asked.color, is_terminal)?;
     let given = read_given(rt, asked)?;
-    explained_with(rt, asked, &given, is_painted)
+    explain_with(rt, asked, &given, is_painted)
 }
 
 /// The same, of the files that options name.
-fn explained_with<R: Runtime + AllocGlobal>(
+fn explain_with<R: Runtime + AllocGlobal>(
     rt: &R,
     asked: &Explain<'_>,
     given: &Read,
     is_painted: bool,
 ) -> Result<Outcome, Failure> {
     let folder = folder_of(rt, asked.source.folder)?;
-    explained_in(rt, asked, given, &folder, is_painted)
+    explain_in(rt, asked, given, &folder, is_painted)
 }
 
 /// The same, of the files of a folder.
-fn explained_in<R: Runtime + AllocGlobal>(
+fn explain_in<R: Runtime + AllocGlobal>(
     rt: &R,
     asked: &Explain<'_>,
     given: &Read,
@@ -41,11 +41,11 @@ fn explained_in<R: Runtime + AllocGlobal>(
 ) -> Result<Outcome, Failure> {
     let output = named_bytes(rt, asked.output)?;
     let answer = answer_of(rt.alloc(), asked, given, folder, output)?;
-    written_in(rt, &answer.text, answer.outcome, is_painted)
+    write_painted(rt, &answer.text, answer.outcome, is_painted)
 }
 
 /// Writes the text, in colours or not.
-pub(crate) fn written_in<R: Runtime + AllocGlobal>(
+pub(crate) fn write_painted<R: Runtime + AllocGlobal>(
     rt: &R,
     text: &Text,
     outcome: Outcome,
@@ -53,9 +53,9 @@ pub(crate) fn written_in<R: Runtime + AllocGlobal>(
 ) -> Result<Outcome, Failure> {
     if is_painted {
         let text = painted(rt.alloc(), text.as_slice())?;
-        return written(rt, &text, outcome);
+        return write_text(rt, &text, outcome);
     }
-    written(rt, text, outcome)
+    write_text(rt, text, outcome)
 }
 
 /// Whether it is written in colours.

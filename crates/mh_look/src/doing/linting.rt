@@ -4,7 +4,7 @@ use crate::command_line::Lint;
 use crate::command_line::linting::near_rule;
 use crate::doing::Outcome;
 use crate::doing::answering::{Read, answer_of};
-use crate::doing::explaining::{is_painted, read_given, written_in};
+use crate::doing::explaining::{is_painted, read_given, write_painted};
 use crate::source::Failure;
 use mh_folder::{Folder, folder_of};
 use mh_lint::RULES;
@@ -14,7 +14,7 @@ use std::alloc::{AllocError, Global};
 use std::rt::Runtime;
 
 /// Writes the lines on the service; an error where none can be had.
-pub(crate) fn linted<R: Runtime + AllocGlobal>(
+pub(crate) fn run_lint<R: Runtime + AllocGlobal>(
     rt: &R,
     wanted: &Lint<'_>,
     is_terminal: bool,
@@ -25,22 +25,22 @@ pub(crate) fn linted<R: Runtime + AllocGlobal>(
     let service = &wanted.service;
     let is_painted = is_painted(rt.alloc(), service.color, is_terminal)?;
     let given = read_given(rt, service)?;
-    linted_with(rt, wanted, &given, is_painted)
+    lint_with(rt, wanted, &given, is_painted)
 }
 
 /// The same, of the files that options name.
-fn linted_with<R: Runtime + AllocGlobal>(
+fn lint_with<R: Runtime + AllocGlobal>(
     rt: &R,
     wanted: &Lint<'_>,
     given: &Read,
     is_painted: bool,
 ) -> Result<Outcome, Failure> {
     let folder = folder_of(rt, wanted.service.source.folder)?;
-    linted_in(rt, wanted, given, &folder, is_painted)
+    lint_in(rt, wanted, given, &folder, is_painted)
 }
 
 /// The same, of the files of a folder.
-fn linted_in<R: Runtime + AllocGlobal>(
+fn lint_in<R: Runtime + AllocGlobal>(
     rt: &R,
     wanted: &Lint<'_>,
     given: &Read,
@@ -48,10 +48,10 @@ fn linted_in<R: Runtime + AllocGlobal>(
     is_painted: bool,
 ) -> Result<Outcome, Failure> {
     if let Some(text) = lines_on(rt.alloc(), wanted, given, folder)? {
-        return written_in(rt, &text, outcome_of(&text), is_painted);
+        return write_painted(rt, &text, outcome_of(&text), is_painted);
     }
     let answer = answer_of(rt.alloc(), &wanted.service, given, folder, None)?;
-    written_in(rt, &answer.text, answer.outcome, is_painted)
+    write_painted(rt, &answer.text, answer.outcome, is_painted)
 }
 
 /// The lines on the service, if all its files are read and it is accepted.

@@ -1,11 +1,11 @@
 //! How a place is mended at which no token begins.
 ghost use Rattle.std.specs.Prelude.{◌≡◌, ◌++◌, OnOk};
-ghost use Rattle.mh_misread.specs.Mending.{separator_mend, string_mend, escape_mend, quote_mend, character_mend, string_byte_mend, slip_mend};
+ghost use Rattle.mh_misread.specs.Mending.{break_mend, separator_mend, string_mend, escape_mend, quote_mend, character_mend, string_byte_mend, slip_mend};
 
 use crate::found::{character_of, put_byte_words, put_escaped, put_marked};
 use crate::phrases::{
-    BETWEEN_APOSTROPHES, BYTE_MEND, COLON_MEND, COMMENT_MEND, ESCAPE_MEND, IN_ITS_PLACE,
-    IN_PLACE_OF_BYTE, MINUS_MEND, POINT_MEND, WHERE_STRING_ENDS,
+    BETWEEN_APOSTROPHES, BREAK_WITHIN, BYTE_MEND, COLON_MEND, COMMENT_MEND, ESCAPE_MEND,
+    IN_ITS_PLACE, IN_PLACE_OF_BYTE, MINUS_MEND, OPERATOR_MEND, POINT_MEND, WHERE_STRING_ENDS,
 };
 use crate::slip::Slip;
 use crate::span::behind;
@@ -29,7 +29,20 @@ fn put_string_mend(text: &mut Text, mark: u8) -> Result<(), AllocError>
 {
     text.put(b"write ")?;
     put_marked(text, &[mark])?;
-    text.put(WHERE_STRING_ENDS)
+    text.put(WHERE_STRING_ENDS)?;
+    put_break_mend(text, mark)
+}
+
+/// Puts how a line break is written within a string of this mark, if it can have one.
+#[tactic(auto, unfolding(crate::specs::Mending::break_mend))]
+fn put_break_mend(text: &mut Text, mark: u8) -> Result<(), AllocError>
+    ensures { OnOk result (text.new ≡ text.old ++ break_mend mark) }
+{
+    if mark == b'\'' {
+        text.put(BREAK_WITHIN)
+    } else {
+        Ok(())
+    }
 }
 
 /// Puts how the byte is written.
@@ -98,6 +111,7 @@ pub(crate) fn put_slip_mend(
         Slip::Colon => text.put(COLON_MEND),
         Slip::Minus => text.put(MINUS_MEND),
         Slip::Point => text.put(POINT_MEND),
+        Slip::Operator(_) => text.put(OPERATOR_MEND),
         Slip::Byte(_) => text.put(BYTE_MEND),
     }
 }

@@ -26,6 +26,11 @@ fn word(ask: Ask) -> &'static [u8] {
         Ask::Key(key) => key_name(key),
         Ask::Stream => b"stream",
         Ask::Engine => b"engine",
+        Ask::Scene => b"scene",
+        Ask::File => b"file",
+        Ask::Back => b"back",
+        Ask::Forth => b"forth",
+        Ask::Redraw => b"redraw",
         Ask::Quit => b"quit",
     }
 }
@@ -41,6 +46,8 @@ rgybt => red green yellow blue text ;;
 \1b\r => cancel red ;;
 \1b 1b\[A => cancel up ;;
 seq => stream engine quit ;;
+lf<> => scene file back forth ;;
+\0c\ => redraw ;;
 xR\00 ff\ => "#;
 
 #[test]

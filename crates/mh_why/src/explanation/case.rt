@@ -1,15 +1,16 @@
 //! The cause and the mend of a refusal, by its case: of what names a reference as `mh_cause` tells them, of a
 //! cycle and of too many steps as they are told here.
 ghost use Rattle.std.specs.Prelude.{◌≡◌, ◌++◌, IfOk, OnOk};
+ghost use Rattle.std.specs.List.{list_any};
 ghost use Rattle.std.specs.Option.{option_copied};
-ghost use Rattle.mh_why.specs.Cases.{case_advice, case_words, cycle_cause, holder_of, is_verdict, plain_cause, plain_mend, refused_of, steps_cause, refusal_cause, refusal_detail, refusal_mend};
+ghost use Rattle.mh_why.specs.Cases.{case_advice, case_words, cycle_cause, cycle_mend, enters, holder_of, is_verdict, plain_cause, plain_mend, refused_of, steps_cause, refusal_cause, refusal_detail, refusal_mend};
 
 use crate::explanation::advice::{put_advice, refusals};
 use crate::wrap::put_sentence;
 use mh_base::ObjRef;
 use mh_cause::{Detail, Refused, detail_of, put_cause, put_mend};
 use mh_flow::Link;
-use mh_layers::InputKind;
+use mh_layers::{Arrow, By, InputKind};
 use mh_told::text::Text;
 use mh_verify::{Refusal, RefusalKind};
 use std::alloc::{AllocError, Global};
@@ -25,6 +26,12 @@ pub const TOO_MANY: &[u8] = b" can be more than 1,000,000 steps";
 
 pub const WAIT_OUTSIDE: &[u8] =
     b"take one of them out of the circle: let it wait for an event from outside (a key, a timer), or let its link name data that the event does not have";
+
+pub const ALONE_OUTSIDE: &[u8] =
+    b"let it wait for an event from outside (a key, a timer), or let its link name data that the event does not have";
+
+pub const ENTERED_AGAIN: &[u8] =
+    b"let a timer or a key lead on: whoever enters a group again does its OnStartUp again";
 
 pub const HAVE_FEWER: &[u8] =
     b"have fewer links that hear one event, fewer actions in what they put, or a timer between the parts of the work";
@@ -125,19 +132,46 @@ fn put_mend_for(alloc: Global, text: &mut Text, refusal: &Refusal) -> Result<(),
     ensures { OnOk result (text.new ≡ text.old ++ refusal_mend refusal.now) }
 {
     match refused_of(refusal) {
-        None => put_plain_mend(text, refusal.kind),
+        None => put_plain_mend(text, refusal.kind, refusal.cycle.as_slice()),
         Some(refused) => put_mend(alloc, text, &refusal.service, &refused),
     }
 }
 
-fn put_plain_mend(text: &mut Text, kind: RefusalKind) -> Result<(), AllocError>
-    ensures { OnOk result (text.new ≡ text.old ++ plain_mend kind) }
+/// Puts the mend of a refusal that names no reference, with these effects that put each other to work.
+fn put_plain_mend(text: &mut Text, kind: RefusalKind, cycle: &[Arrow]) -> Result<(), AllocError>
+    ensures { OnOk result (text.new ≡ text.old ++ plain_mend kind cycle.now) }
 {
     match kind {
-        RefusalKind::Cycle => text.put(WAIT_OUTSIDE),
+        RefusalKind::Cycle => put_cycle_mend(text, cycle),
         RefusalKind::TooManySteps(_) => text.put(HAVE_FEWER),
         _ => Ok(()),
     }
+}
+
+#[tactic(auto, unfolding(crate::specs::Cases::cycle_mend))]
+fn put_cycle_mend(text: &mut Text, cycle: &[Arrow]) -> Result<(), AllocError>
+    ensures { OnOk result (text.new ≡ text.old ++ cycle_mend cycle.now) }
+{
+    if enters_again(cycle) {
+        return text.put(ENTERED_AGAIN);
+    }
+    if cycle.len() == 1 {
+        return text.put(ALONE_OUTSIDE);
+    }
+    text.put(WAIT_OUTSIDE)
+}
+
+/// Whether a transition enters a group, on the way round.
+fn enters_again(cycle: &[Arrow]) -> bool
+    ensures { result ≡ list_any enters cycle.now }
+{
+    cycle.iter().any(enters)
+}
+
+fn enters(arrow: &Arrow) -> bool
+    ensures { result ≡ enters arrow.now }
+{
+    matches!(arrow.by, By::Entered)
 }
 
 #[tactic(auto, unfolding(crate::specs::Cases::refusal_detail))]

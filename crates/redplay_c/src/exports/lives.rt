@@ -2,6 +2,7 @@
 ghost use Rattle.std.specs.Prelude.{◌≡◌, ◌<◌, None, is_none, false, true, IfOk, IfErr, if◌then◌else◌};
 ghost use Rattle.redplay_c.specs.Answers.{good, in_use, no_session};
 ghost use Rattle.redplay_c.specs.Files.{choice_of};
+ghost use Rattle.redplay_c.specs.SealedStarts.{HasSealed, IsSealed, IsUnsealed, IsUnsealedBy};
 ghost use Rattle.redplay_c.specs.Starts.{HasStarted, IsStarted, IsToldBy, IsUnstarted};
 
 use crate::answer::{GOOD, IN_USE, NO_SESSION};
@@ -46,6 +47,50 @@ pub extern "C" fn redplay_start(
             GOOD
         }
         Err(why) => why.number(),
+    }
+}
+
+/// Starts a session by a seal in a handle that has none.
+#[unsafe(no_mangle)]
+#[tactic(auto, using(crate::proofs::SealedStartLemmas::unsealed_some, crate::proofs::SealedStartLemmas::has_sealed))]
+pub extern "C" fn redplay_start_sealed(
+    alloc: Global,
+    handle: &mut Handle,
+    seal: &[u8],
+    sources: &[Source],
+    mjd: u32,
+) -> u32
+    ensures used { is_none handle.old.session ≡ false → (result ≡ in_use) × (handle.new.session ≡ handle.old.session) }
+    ensures refused { 0 < result → handle.new.session ≡ handle.old.session }
+    ensures started { result ≡ good → is_none handle.new.session ≡ false }
+    ensures begun { result ≡ good → HasSealed seal.now sources.now mjd handle.new.session }
+    ensures why { is_none handle.old.session ≡ true → 0 < result → IsUnsealedBy seal.now sources.now mjd result }
+{
+    if !handle.is_none() {
+        return IN_USE;
+    }
+    match boxed_by_seal(alloc, seal, sources, mjd) {
+        Ok(session) => {
+            mem::replace(handle, Handle::of(session)).let_go();
+            GOOD
+        }
+        Err(why) => why.number(),
+    }
+}
+
+/// A session by a seal, on the heap.
+fn boxed_by_seal(
+    alloc: Global,
+    seal: &[u8],
+    sources: &[Source],
+    mjd: u32,
+) -> Result<Box<Session, Global>, StartRefusal>
+    ensures started { IfOk result (λ session. IsSealed seal.now sources.now mjd session.value) }
+    ensures refused { IfErr result (λ why. IsUnsealed seal.now sources.now mjd why) }
+{
+    match Session::start_sealed(alloc, seal, sources, mjd) {
+        Ok(session) => in_box(alloc, session),
+        Err(why) => Err(why),
     }
 }
 

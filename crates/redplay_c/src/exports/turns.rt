@@ -3,7 +3,7 @@ ghost use Rattle.std.specs.Prelude.{◌≡◌, None};
 ghost use Rattle.mh_machine.specs.Rest.{rest_of};
 ghost use Rattle.mh_model.specs.Picture.{shown};
 ghost use Rattle.redplay_c.specs.Answers.{good, rest_number};
-ghost use Rattle.redplay_c.specs.Calls.{IsAdvanced, IsFaultTold, bounds_of, counts_of};
+ghost use Rattle.redplay_c.specs.Calls.{IsAdvanced, IsAwaitedTold, IsFaultTold, bounds_of, counts_of};
 ghost use Rattle.redplay_c.specs.Cells.{AreCells};
 ghost use Rattle.redplay_c.specs.OnSession.{OnSession};
 ghost use Rattle.redplay_c.specs.Rows.{AreRows};
@@ -75,6 +75,18 @@ pub extern "C" fn redplay_fault(
         return NO_SESSION;
     }
     handle.held().fault(at, text, length)
+}
+
+/// Tells what is waited for.
+#[unsafe(no_mangle)]
+pub extern "C" fn redplay_awaited(handle: &mut Handle, text: &mut [u8], length: &mut usize) -> u32
+    ensures told { OnSession (IsAwaitedTold text.old text.new length.old length.new) handle.old.session handle.new.session result }
+    ensures none { handle.old.session ≡ None → (text.new ≡ text.old) × (length.new ≡ length.old) }
+{
+    if handle.is_none() {
+        return NO_SESSION;
+    }
+    handle.held().awaited(text, length)
 }
 
 /// Which rows changed since this was asked last.

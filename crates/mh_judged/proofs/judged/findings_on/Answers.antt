@@ -10,11 +10,11 @@ pub returns-in-Ok : goal.returns-in-Ok
 returns-in-Ok c =
     subst
     (λ (r : Result Service Unplayable). IfOk c.verified.result
-    (λ found. IsListOf c.args.asked c.args.given.now c.args.folder.now c.args.files.now c.args.start.now r found.items))
+    (λ found. IsListOf c.args.asked c.args.most c.args.given.now c.args.folder.now c.args.files.now c.args.start.now r found.items))
     (sym c.in-Ok.ensures) c.verified.ensures
 
 pub returns-in-Err : goal.returns-in-Err
 returns-in-Err c =
     kept_ok c.unplayable-found.result
-    (λ found both. unread_so c.args.asked c.args.given.now c.args.folder.now c.args.files.now c.args.start.now c.in-Err.why _ found.items c.in-Err.ensures both.1 both.0)
+    (λ found both. unread_so c.args.asked c.args.most c.args.given.now c.args.folder.now c.args.files.now c.args.start.now c.in-Err.why _ found.items c.in-Err.ensures both.1 both.0)
     c.unplayable-found.ensures

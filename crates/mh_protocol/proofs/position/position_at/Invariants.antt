@@ -1,6 +1,6 @@
 use Rattle.std.proofs.Common.{◌≡◌, ◌*◌, ◌≤◌, drop}
 use Rattle.mh_protocol.specs.Positions.{position_in}
-use Rattle.mh_protocol.proofs.PositionLemmas.{onto}
+use Rattle.mh_protocol.specs.Counting.{onto}
 use Rattle.mh_protocol.proofs.position.position_at.Given as goal
 
 abbrev pub invariant-loop-index : goal.invariant-loop-index

@@ -1,0 +1,5 @@
+pub mod Paths
+pub mod Objects
+pub mod Locations
+pub mod Renaming
+pub mod Layout

@@ -1,0 +1,8 @@
+mod AsBox
+mod FindingLemmas
+mod Full
+mod PlayLemmas
+mod ReportLemmas
+mod StandingLemmas
+mod ToldLemmas
+mod TriedLemmas

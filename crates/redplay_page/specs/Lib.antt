@@ -1,0 +1,10 @@
+pub mod Cells
+pub mod Chosen
+pub mod Findings
+pub mod Lent
+pub mod Owned
+pub mod Playing
+pub mod Reports
+pub mod Standing
+pub mod Told
+pub mod Tried
