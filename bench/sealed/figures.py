@@ -66,10 +66,10 @@ def instructions(command, top):
     return int(re.search(r"Collected : (\d+)", told.stderr)[1])
 
 
-def memory(command):
-    """The largest resident set, in kilobytes."""
-    code = "import resource, subprocess, sys; subprocess.run(sys.argv[1:], stdout=subprocess.DEVNULL, check=True); print(resource.getrusage(resource.RUSAGE_CHILDREN).ru_maxrss)"
-    return int(subprocess.run([sys.executable, "-c", code, *command], capture_output=True, text=True, check=True).stdout)
+def memory(command, top):
+    """The most bytes that are held on the heap at once. A resident set would count that of the caller, too."""
+    subprocess.run(["valgrind", "--tool=massif", f"--massif-out-file={top}/held", *command], capture_output=True, check=True)
+    return max(int(held) for held in re.findall(r"mem_heap_B=(\d+)", (top / "held").read_text()))
 
 
 def octets(*paths):
@@ -92,7 +92,7 @@ def main(redplay, scenes="50", objects="80"):
         }
         for name, (words, read) in plays.items():
             command = [redplay, "play", *words, *script]
-            print(f"{name}: {instructions(command, top) / 1e6:.1f} M instructions, {memory(command) / 1024:.1f} MB, {read} octets")
+            print(f"{name}: {instructions(command, top) / 1e6:.1f} M instructions, {memory(command, top) / 1e6:.2f} MB, {read} octets")
 
 
 if __name__ == "__main__":
