@@ -52,6 +52,7 @@ static void without_session(redplay *none) {
     is("counts", redplay_counts(none, &totals), REDPLAY_NO_SESSION);
     is("bounds", redplay_bounds(none, &limits), REDPLAY_NO_SESSION);
     is("fault", redplay_fault(none, 0, text, 1, &length), REDPLAY_NO_SESSION);
+    is("awaited", redplay_awaited(none, text, 1, &length), REDPLAY_NO_SESSION);
     is("changed", redplay_changed(none, &rows), REDPLAY_NO_SESSION);
     is("cells", redplay_cells(none, 0, cells, 1), REDPLAY_NO_SESSION);
     is("free", redplay_free(none), REDPLAY_NO_SESSION);
@@ -62,7 +63,7 @@ static const uint8_t *const start = (const uint8_t *)"a";
 
 /* The numbers that calls answer, and no others, have texts, none of them longer than the header says. */
 static void texts(void) {
-    static const uint32_t gaps[][2] = {{8, 9}, {15, 19}, {25, 29}, {36, 36}, {38, 39}, {42, 50}, {55, 56}, {59, 99}, {103, 103}, {108, 999}};
+    static const uint32_t gaps[][2] = {{8, 9}, {15, 19}, {25, 29}, {36, 36}, {38, 39}, {42, 50}, {55, 56}, {59, 69}, {74, 99}, {103, 103}, {108, 999}};
     uint8_t text[128] = {0};
     size_t length = 0;
     for (uint32_t number = 0, gap = 0; number < 1000; number++) {
@@ -129,6 +130,10 @@ static void unstarted(redplay *none) {
     is("no start", redplay_start(none, plain, 4, (const uint8_t *)"b", 1, start, 0, 60000, false), 31);
     is("no scene", redplay_start(none, plain, 4, start, 1, start, 1, 60000, false), 37);
     is("refused", redplay_start(none, faulty, 2, start, 1, start, 0, 60000, false), REDPLAY_UNACCEPTED);
+    is("no seal", redplay_start_sealed(none, start, 1, plain, 4, 60000), REDPLAY_NO_SEAL);
+    is("an empty seal", redplay_start_sealed(none, NULL, 0, NULL, 0, 60000), REDPLAY_NO_SEAL);
+    is("a day before the seal", redplay_start_sealed(none, start, 1, plain, 4, 1000001), REDPLAY_OUT_OF_RANGE);
+    is("another seal", redplay_start_sealed(none, (const uint8_t *)"redplay seal 2\n", 15, plain, 4, 60000), REDPLAY_OTHER_SEAL);
     is("no session yet", redplay_free(none), REDPLAY_NO_SESSION);
 }
 
@@ -187,6 +192,25 @@ static void with_fault(redplay *one) {
     is("free", redplay_free(one), REDPLAY_GOOD);
 }
 
+/* What is waited for: a line's file, which is not there; and behind the key a late scene. */
+static void with_late_files(redplay *one) {
+    uint8_t text[64] = {0};
+    size_t length = 7;
+    is("start", redplay_start(one, plain, 3, start, 1, late, 1, 60000, false), REDPLAY_GOOD);
+    is("awaited", redplay_awaited(one, text, sizeof text, &length), REDPLAY_GOOD);
+    is("nothing yet", length, 0);
+    is("advance", redplay_advance(one, UINT32_MAX), REDPLAY_GOOD);
+    is("awaited", redplay_awaited(one, text, sizeof text, &length), REDPLAY_GOOD);
+    reads("a file", text, sizeof text, length, "file line\n");
+    is("key", redplay_key(one, REDPLAY_KEY_RED), REDPLAY_GOOD);
+    is("advance", redplay_advance(one, UINT32_MAX), REDPLAY_GOOD);
+    is("awaited", redplay_awaited(one, text, sizeof text, &length), REDPLAY_GOOD);
+    reads("a scene and a file", text, sizeof text, length, "scene t\nfile line\n");
+    is("a part", redplay_awaited(one, text, 4, &length), REDPLAY_GOOD);
+    is("the whole length", length, strlen("scene t\nfile line\n"));
+    is("free", redplay_free(one), REDPLAY_GOOD);
+}
+
 int main(void) {
     redplay handle = REDPLAY_NONE;
     is("version", redplay_version(), REDPLAY_VERSION);
@@ -198,6 +222,7 @@ int main(void) {
     unstarted(&handle);
     with_session(&handle);
     with_fault(&handle);
+    with_late_files(&handle);
     without_session(&handle);
     printf("%s\n", wrong ? "layout: wrong" : "layout: each call answers as the header says");
     return wrong;

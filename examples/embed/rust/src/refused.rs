@@ -46,6 +46,10 @@ impl Refused {
     pub const TICK_RANGE: Refused = Refused(54);
     pub const NOT_LATE: Refused = Refused(57);
     pub const SCENE_DIFFERS: Refused = Refused(58);
+    pub const NO_SEAL: Refused = Refused(70);
+    pub const OTHER_SEAL: Refused = Refused(71);
+    pub const NOT_HERE: Refused = Refused(72);
+    pub const OTHER_TAGS: Refused = Refused(73);
     pub const NO_MEMORY: Refused = Refused(100);
     pub const NO_SESSION: Refused = Refused(101);
     pub const UNACCEPTED: Refused = Refused(102);

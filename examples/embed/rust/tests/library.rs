@@ -2,7 +2,7 @@
 
 use redplay::{engine_version, version, Engine, Refused, Service};
 
-const ALL: [Refused; 39] = [
+const ALL: [Refused; 43] = [
     Refused::TRUNCATED,
     Refused::BAD_TAG,
     Refused::LONG_LENGTH,
@@ -35,6 +35,10 @@ const ALL: [Refused; 39] = [
     Refused::TICK_RANGE,
     Refused::NOT_LATE,
     Refused::SCENE_DIFFERS,
+    Refused::NO_SEAL,
+    Refused::OTHER_SEAL,
+    Refused::NOT_HERE,
+    Refused::OTHER_TAGS,
     Refused::NO_MEMORY,
     Refused::NO_SESSION,
     Refused::UNACCEPTED,
