@@ -87,7 +87,7 @@ def renumbered(folder, name, at, number):
     editor = Editor(folder)
     asked = editor.about("rename", name, at, newName=str(number))
     answer = editor.play()[0][asked]
-    texts = {f.name: f.read_text() for f in pathlib.Path(folder).iterdir()}
+    texts = {f.name: f.read_bytes().decode() for f in pathlib.Path(folder).iterdir()}
     if "changes" not in answer:
         return None
     for uri, edits in answer["changes"].items():
@@ -98,13 +98,13 @@ def renumbered(folder, name, at, number):
 
 def findings(folder, name):
     editor = Editor(folder)
-    editor.open(name, (pathlib.Path(folder) / name).read_text())
+    editor.open(name, (pathlib.Path(folder) / name).read_bytes().decode())
     return [(p["uri"], [(d["severity"], d["code"]) for d in p["diagnostics"]]) for p in published(editor.play()[1])]
 
 
 def is_given_back(rng, folder, name):
     """Returns whether an object that gets a number and its own again is what it was, and nothing else is found between."""
-    before = {f.name: f.read_text() for f in pathlib.Path(folder).iterdir()}
+    before = {f.name: f.read_bytes().decode() for f in pathlib.Path(folder).iterdir()}
     editor = Editor(folder)
     asked = editor.about("documentSymbol", name)
     objects = [s for s in editor.play()[0][asked] if not s["name"].endswith(" 0")]
@@ -117,7 +117,7 @@ def is_given_back(rng, folder, name):
     with tempfile.TemporaryDirectory() as other:
         changed = renumbered(folder, name, at, 900_000_001)
         for key, text in changed.items():
-            (pathlib.Path(other) / key).write_text(text)
+            (pathlib.Path(other) / key).write_bytes(text.encode())
         between = findings(other, name)
         back = renumbered(other, name, at, number)
     same = [one for _, one in found] == [one for _, one in between]
@@ -129,7 +129,7 @@ def is_given_back(rng, folder, name):
 
 def is_laid_out(rng, folder, name):
     """Returns whether a text with other blanks in front of its lines is laid out once and for all, with nothing else changed."""
-    text = (pathlib.Path(folder) / name).read_text()
+    text = (pathlib.Path(folder) / name).read_bytes().decode()
     lines = [rng.choice(["", "  ", "\t"]) + line.strip(" \t") + rng.choice(["", " "]) for line in text.split("\n")]
     editor = Editor(folder)
     editor.open(name, "\n".join(lines))
@@ -158,7 +158,7 @@ def main(count=2000, seed=1):
             shutil.copytree(source, folder)
             texts = [f.name for f in source.iterdir() if f.is_file() and b"{:" in f.read_bytes()]
             name = rng.choice(sorted(texts))
-            notices = compare(rng, folder, name, (source / name).read_text(), AT_ONCE)
+            notices = compare(rng, folder, name, (source / name).read_bytes().decode(), AT_ONCE)
             wrong += notices is None
             told += notices or 0
             wrong += not is_given_back(rng, folder, name)
