@@ -5,9 +5,13 @@ import re
 
 # What the values of these names are. A help does not tell that, so a name that is not here stops the release until it is.
 KINDS = {
+    "COLUMN ROW": "free",
     "DIR": "folder",
     "FILE": "file",
     "FOLDER": "folder",
+    # (what every program with such a value takes; redlook has two forms more)
+    "FORM": "text json",
+    "GROUP": "free",
     "GROUP NUMBER": "free",
     "K": "free",
     "N": "free",
@@ -17,6 +21,7 @@ KINDS = {
     "REPORT": "file",
     "RULE": "free",
     "SCRIPT": "file",
+    "TEXT": "free",
     "WHEN": "auto always never",
 }
 # Options that may stand several times; a help does not tell that either.
