@@ -170,6 +170,38 @@ impl Engine {
         Ok(engine)
     }
 
+    /// A session by the seal of a service, with the files that are there: late scenes are posted when they are, and no verifier
+    /// is asked. The seal is believed (`redplay.h`, `redplay_start_sealed`).
+    pub fn start_sealed(seal: &[u8], files: &[File<'_>], day: u32) -> Result<Engine, Refused> {
+        let s = sources(files);
+        let handle = Handle {
+            at: core::ptr::null_mut(),
+        };
+        let mut engine = Engine { handle };
+        // SAFETY: as above.
+        told(unsafe {
+            raw::redplay_start_sealed(
+                &mut engine.handle,
+                seal.as_ptr(),
+                seal.len(),
+                s.as_ptr(),
+                s.len(),
+                day,
+            )
+        })?;
+        Ok(engine)
+    }
+
+    /// What is waited for, a line each: `scene NAME` of a transition, `file NAME` of each content file.
+    pub fn awaited(&self) -> Result<Vec<u8>, Refused> {
+        let handle = &self.handle;
+        // SAFETY: as above.
+        let (answer, text) = text_of(|room, length| unsafe {
+            raw::redplay_awaited(handle, room.as_mut_ptr(), room.len(), length)
+        });
+        told(answer).map(|()| text)
+    }
+
     /// Posts an input, which waits until steps are made.
     pub fn post(&mut self, input: Input<'_>) -> Result<(), Refused> {
         let handle = &mut self.handle;

@@ -77,6 +77,14 @@ extern "C" {
         day: u32,
         lenient: bool,
     ) -> u32;
+    pub fn redplay_start_sealed(
+        handle: *mut Handle,
+        seal: *const u8,
+        seal_length: usize,
+        files: *const Source,
+        files_length: usize,
+        day: u32,
+    ) -> u32;
     pub fn redplay_free(handle: *mut Handle) -> u32;
     pub fn redplay_key(handle: *mut Handle, key: u32) -> u32;
     pub fn redplay_tick(handle: *mut Handle, milliseconds: u32) -> u32;
@@ -100,6 +108,12 @@ extern "C" {
     pub fn redplay_fault(
         handle: *const Handle,
         at: usize,
+        text: *mut u8,
+        text_length: usize,
+        length: *mut usize,
+    ) -> u32;
+    pub fn redplay_awaited(
+        handle: *const Handle,
         text: *mut u8,
         text_length: usize,
         length: *mut usize,

@@ -1,6 +1,6 @@
 //! What the crate says, against the archive that is linked.
 
-use redplay::{engine_version, version, Engine, Refused, Service};
+use redplay::{engine_version, version, Engine, Input, Refused, Service};
 
 const ALL: [Refused; 43] = [
     Refused::TRUNCATED,
@@ -86,4 +86,37 @@ fn empty_pieces_are_told_by_their_numbers() {
 fn a_session_may_go_to_another_thread() {
     fn goes<T: Send>() {}
     goes::<Engine>();
+}
+
+#[test]
+fn a_session_by_a_seal_awaits_its_late_scene() {
+    let late = concat!(env!("CARGO_MANIFEST_DIR"), "/../../late/");
+    let read = |name: &str| std::fs::read(format!("{late}{name}")).expect("a file of the example");
+    let (seal, a, menu, weather) = (
+        read("seal"),
+        read("service/a"),
+        read("service/menu"),
+        read("service/weather"),
+    );
+    let mut files: Vec<(&[u8], &[u8])> = vec![(b"a", &a), (b"menu", &menu)];
+    assert_eq!(
+        Engine::start_sealed(&seal, &files, 60_000).err(),
+        Some(Refused::NOT_HERE)
+    );
+    let help = read("service/help");
+    files.push((b"help", &help));
+    let mut engine = Engine::start_sealed(&seal, &files, 60_000).expect("a session");
+    engine.advance(1_000).expect("steps");
+    assert_eq!(engine.awaited().expect("a text"), b"");
+    engine.post(Input::Key(100)).expect("red");
+    engine.advance(1_000).expect("steps");
+    assert_eq!(engine.awaited().expect("a text"), b"scene weather\n");
+    let differs = engine.post(Input::Scene((b"weather", &menu)));
+    assert_eq!(differs.err(), Some(Refused::SCENE_DIFFERS));
+    engine
+        .post(Input::Scene((b"weather", &weather)))
+        .expect("the sealed scene");
+    engine.advance(1_000).expect("steps");
+    assert_eq!(engine.awaited().expect("a text"), b"");
+    assert_eq!(engine.totals().faults, 0);
 }
